@@ -1,13 +1,12 @@
-// A library with one function.
+//! Places with whole coordinates, and tests on them that are exact over the whole range.
 #![tactic(auto)]
 
-ghost use Rattle.std.specs.Prelude.{◌≡◌};
-ghost use Rattle.ma_geom.specs.Echo.{echo_of};
+mod exact;
+mod memory;
+mod place;
 
-// The `ensures` clause is the contract: what `echo` returns is `echo_of` of its argument, a definition
-// in `specs/Echo.antt`, which a caller's clause can cite too.
-pub fn echo(x: usize) -> usize
-    ensures { result ≡ echo_of x }
-{
-    x
-}
+pub use memory::Memory;
+pub use place::{Place, vol6};
+
+#[cfg(test)]
+mod tests;

@@ -1,0 +1,57 @@
+// Whole numbers that can't overflow: each step states its value and how far from zero it can be.
+// A coordinate is at most 2^30 in absolute value, so a difference is at most 2^31, a minor of two
+// rows of differences at most 2^63, and six times a volume at most 3 * 2^94.
+ghost use Rattle.std.specs.Prelude.{◌≡◌, ◌≤◌, ◌*◌, ◌^◌, ◌+ℤ◌, ◌-ℤ◌, ◌*ℤ◌, unsigned_abs};
+
+/// The difference of two coordinates.
+pub fn difference(a: i32, b: i32) -> i128
+    requires a_in { unsigned_abs a ≤ 2 ^ 30 }
+    requires b_in { unsigned_abs b ≤ 2 ^ 30 }
+    ensures value { result ≡ a -ℤ b }
+    ensures bound { unsigned_abs result ≤ 2 ^ 31 }
+{
+    a as i128 - b as i128
+}
+
+/// The product of two differences.
+fn product(p: i128, q: i128) -> i128
+    requires p_in { unsigned_abs p ≤ 2 ^ 31 }
+    requires q_in { unsigned_abs q ≤ 2 ^ 31 }
+    ensures value { result ≡ p *ℤ q }
+    ensures bound { unsigned_abs result ≤ 2 ^ 62 }
+{
+    p * q
+}
+
+/// The determinant of two rows of differences, `p * s - q * r`.
+pub fn minor(p: i128, q: i128, r: i128, s: i128) -> i128
+    requires p_in { unsigned_abs p ≤ 2 ^ 31 }
+    requires q_in { unsigned_abs q ≤ 2 ^ 31 }
+    requires r_in { unsigned_abs r ≤ 2 ^ 31 }
+    requires s_in { unsigned_abs s ≤ 2 ^ 31 }
+    ensures value { result ≡ (p *ℤ s) -ℤ (q *ℤ r) }
+    ensures bound { unsigned_abs result ≤ 2 ^ 63 }
+{
+    product(p, s) - product(q, r)
+}
+
+/// A minor times a difference.
+pub fn along(m: i128, u: i128) -> i128
+    requires m_in { unsigned_abs m ≤ 2 ^ 63 }
+    requires u_in { unsigned_abs u ≤ 2 ^ 31 }
+    ensures value { result ≡ m *ℤ u }
+    ensures bound { unsigned_abs result ≤ 2 ^ 94 }
+{
+    m * u
+}
+
+/// The sum of three such products.
+pub fn total(a: i128, b: i128, c: i128) -> i128
+    requires a_in { unsigned_abs a ≤ 2 ^ 94 }
+    requires b_in { unsigned_abs b ≤ 2 ^ 94 }
+    requires c_in { unsigned_abs c ≤ 2 ^ 94 }
+    ensures value { result ≡ (a +ℤ b) +ℤ c }
+    ensures bound { unsigned_abs result ≤ 3 * 2 ^ 94 }
+{
+    a + b + c
+}
