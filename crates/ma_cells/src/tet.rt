@@ -1,0 +1,125 @@
+// Tetrahedra.
+ghost use Rattle.std.specs.Prelude.{◌≡◌, pos, true};
+ghost use Rattle.std.specs.Ordering.{int_eq};
+ghost use Rattle.ma_geom.specs.Coordinates.{place_cmp};
+ghost use Rattle.ma_geom.specs.Volume.{vol6};
+ghost use Rattle.ma_cells.specs.Ascending.{are_ascending};
+ghost use Rattle.ma_cells.specs.Tetrahedron.{are_corners, is_flat, tetrahedron_of};
+
+use ma_geom::{Place, vol6};
+use std::marker::Model;
+
+/// A tetrahedron with a region, the pair of `phys` and `elem`. Its corners ascend and aren't flat.
+/// Tetrahedra are ordered by corners, then `phys`, then `elem`.
+#[derive(Clone, Copy, Debug, PartialEq, Eq, PartialOrd, Ord, Hash)]
+pub struct Tet {
+    corners: [Place; 4],
+    phys: i32,
+    elem: i32,
+}
+
+impl Model for Tet {
+    ghost use Rattle.std.specs.Prelude.{◌≡◌, true};
+    ghost use Rattle.ma_cells.specs.Tetrahedron.{Tetrahedron, are_corners};
+
+    ghost Value = { Tetrahedron };
+
+    ghost view = { λ t. record { corners = t.corners; phys = t.phys; elem = t.elem } };
+
+    ghost invariant = { λ t. are_corners t.corners ≡ true };
+
+    ghost inverse = { λ t. record { corners = t.corners; phys = t.phys; elem = t.elem } };
+}
+
+/// A place with small coordinates.
+fn small_place(x: u8, y: u8, z: u8) -> Place
+    ensures { result ≡ record { x = pos x; y = pos y; z = pos z } }
+{
+    match Place::new(i32::from(x), i32::from(y), i32::from(z)) {
+        Some(place) => place,
+        None => unreachable!(),
+    }
+}
+
+/// The tetrahedron of the origin and the unit vectors, with tags 0 0.
+impl Default for Tet {
+    ghost use Rattle.std.specs.Prelude.{◌≡◌, pos, ◌∷◌, []};
+
+    ghost is_default = { λ t. t ≡ record {
+      corners = record { x = pos 0; y = pos 0; z = pos 0 } ∷ record { x = pos 0; y = pos 0; z = pos 1 } ∷ record { x = pos 0; y = pos 1; z = pos 0 } ∷ record { x = pos 1; y = pos 0; z = pos 0 } ∷ [];
+      phys = pos 0;
+      elem = pos 0;
+    } };
+
+    fn default() -> Tet {
+        Tet {
+            corners: [
+                small_place(0, 0, 0),
+                small_place(0, 0, 1),
+                small_place(0, 1, 0),
+                small_place(1, 0, 0),
+            ],
+            phys: 0,
+            elem: 0,
+        }
+    }
+}
+
+/// Whether each place is below the next.
+pub(crate) fn are_ascending(places: &[Place]) -> bool
+    ensures { result ≡ are_ascending place_cmp places.now }
+{
+    match places {
+        [first, second, ..] => first < second && are_ascending(&places[1..]),
+        _ => true,
+    }
+}
+
+fn are_in_plane(a: Place, b: Place, c: Place, d: Place) -> bool
+    ensures { result ≡ int_eq (vol6 a b c d) (pos 0) }
+{
+    vol6(a, b, c, d) == 0
+}
+
+fn is_flat(corners: [Place; 4]) -> bool
+    ensures { result ≡ is_flat corners }
+{
+    are_in_plane(corners[0], corners[1], corners[2], corners[3])
+}
+
+impl Tet {
+    /// The tetrahedron with these corners, given in any order. None where they are flat.
+    pub fn new(mut corners: [Place; 4], phys: i32, elem: i32) -> Option<Tet>
+        ensures { result ≡ tetrahedron_of corners phys elem }
+    {
+        corners.sort_unstable();
+        if are_ascending(&corners) && !is_flat(corners) {
+            Some(Tet {
+                corners,
+                phys,
+                elem,
+            })
+        } else {
+            None
+        }
+    }
+
+    pub fn corners(&self) -> [Place; 4]
+        ensures value { result ≡ self.now.corners }
+        ensures corners { are_corners result ≡ true }
+    {
+        self.corners
+    }
+
+    pub fn phys(&self) -> i32
+        ensures { result ≡ self.now.phys }
+    {
+        self.phys
+    }
+
+    pub fn elem(&self) -> i32
+        ensures { result ≡ self.now.elem }
+    {
+        self.elem
+    }
+}
