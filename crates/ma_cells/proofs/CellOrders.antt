@@ -7,7 +7,7 @@ use Rattle.std.specs.Ordering.{int_cmp, ordering_then}
 use Rattle.std.proofs.lemmas.Cmp.{on_total, then_total}
 use Rattle.ma_geom.specs.Coordinates.{place_cmp}
 use Rattle.ma_geom.proofs.PlaceOrder.{both_tie, place_cmp-IsAntisymmetric, place_cmp_total}
-use Rattle.ma_cells.specs.Cells.{CellMark, cell_cmp, mark_cmp}
+use Rattle.ma_cells.specs.Cells.{cell_cmp, mark_cmp}
 use Rattle.ma_cells.specs.Tetrahedron.{Tetrahedron, tet_cmp}
 use Rattle.ma_cells.specs.contracts.cell.CellOrd.TheImpl as CellOrder
 use Rattle.ma_cells.specs.contracts.cell.MarkOrd.TheImpl as MarkOrder

@@ -1,10 +1,10 @@
 -- Points, segments and triangles, and marks on them.
-use Rattle.std.specs.Prelude.{ℤ, ℕ, Bool, true, false, ◌&&◌, ◌==◌, List, [], ◌∷◌, length}
+use Rattle.std.specs.Prelude.{ℤ, Bool, true, ◌&&◌, ◌==◌, length}
 use Rattle.std.specs.declared.cmp.Ordering.{Ordering}
 use Rattle.std.specs.declared.cmp.Ordering.TheVariants.{Less, Greater}
 use Rattle.std.specs.Cmp.Lexicographic.{slice_cmp}
 use Rattle.std.specs.Ordering.{int_cmp, ordering_then}
-use Rattle.ma_geom.specs.Coordinates.{Coordinates, place_cmp}
+use Rattle.ma_geom.specs.Coordinates.{place_cmp}
 use Rattle.ma_cells.specs.Ascending.{are_ascending}
 use Rattle.ma_cells.specs.declared.cell.Cell.{Cell}
 use Rattle.ma_cells.specs.declared.cell.Cell.TheVariants.{Point, Seg, Tri}

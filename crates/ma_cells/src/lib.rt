@@ -10,3 +10,6 @@ pub use ascending::Ascending;
 pub use batch::Batch;
 pub use cell::{Cell, Mark};
 pub use tet::Tet;
+
+#[cfg(test)]
+mod tests;

@@ -1,4 +1,3 @@
-use Rattle.std.proofs.Common.{sym}
 use Rattle.ma_cells.proofs.Ascents.{counted, gathered, strict-dedup}
 use Rattle.ma_cells.proofs.ascending.Ascending.gather.Goals as goal
 
