@@ -1,13 +1,22 @@
-// A library with one function.
+//! Where a program's files come from and go to: a depot of named files, and a sink for printed bytes.
+//!
+//! Programs are written over the traits [`Depot`] and [`Sink`], whose contracts say what an answer means,
+//! what it leaves, and which count it raises.
 #![tactic(auto)]
 
-ghost use Rattle.std.specs.Prelude.{◌≡◌};
-ghost use Rattle.ma_io.specs.Echo.{echo_of};
+mod disk_depot;
+mod faults;
+mod mem_depot;
+mod mem_sink;
+mod pieces;
+mod std_sink;
+#[cfg(test)]
+mod tests;
+mod traits;
 
-// The `ensures` clause is the contract: what `echo` returns is `echo_of` of its argument, a definition
-// in `specs/Echo.antt`, which a caller's clause can cite too.
-pub fn echo(x: usize) -> usize
-    ensures { result ≡ echo_of x }
-{
-    x
-}
+pub use disk_depot::DiskDepot;
+pub use faults::{FetchFault, SinkFault, StoreFault};
+pub use mem_depot::{MemDepot, names_differ};
+pub use mem_sink::MemSink;
+pub use std_sink::StdSink;
+pub use traits::{Depot, Sink};
