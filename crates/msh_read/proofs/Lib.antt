@@ -1,0 +1,7 @@
+pub mod Cuts
+pub mod Digits
+pub mod Each
+pub mod Entries
+pub mod NodeLines
+pub mod TetLines
+pub mod Soundness

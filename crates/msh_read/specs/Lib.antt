@@ -1,0 +1,9 @@
+pub mod Answer
+pub mod Digits
+pub mod Form
+pub mod Number
+pub mod Pieces
+pub mod Raw
+pub mod Reading
+pub mod Steps
+pub mod Tetrahedra
