@@ -1,0 +1,4 @@
+pub mod Carried
+pub mod Numbering
+pub mod Numbers
+pub mod TextLines

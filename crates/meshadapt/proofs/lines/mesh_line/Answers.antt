@@ -1,0 +1,7 @@
+use Rattle.std.proofs.Common.{sym, append_assoc}
+use Rattle.meshadapt.specs.Printed.{mesh_line}
+use Rattle.meshadapt.proofs.lines.mesh_line.Goals as goal
+
+pub returns : goal.returns
+unfolding mesh_line
+returns c = rw (c.in_ok-format.ensures.ok, c.len-tets.ensures, c.len-nodes.ensures, c.requires) (sym (simp append_assoc))

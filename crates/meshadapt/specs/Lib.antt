@@ -1,0 +1,7 @@
+pub mod Words
+pub mod Text
+pub mod Verdict
+pub mod Printed
+pub mod Outcome
+pub mod Steps
+pub mod Codes

@@ -1,0 +1,56 @@
+-- The words of a job.
+use Rattle.std.specs.Prelude.{ℕ, ◌^◌, ◌&&◌, ◌==◌, nat_le, if◌then◌else◌, List, [], ◌∷◌, length, Option, Some, None, codes}
+use Rattle.std.specs.Str.{bytes_eq}
+use Rattle.msh_read.specs.Number.{natural_of}
+use Rattle.msh_read.specs.Steps.{◌>>=◌}
+
+-- the file of the mesh, the size of edges, and the name under which files are stored
+pub record Job : Type 0 where
+  pub mesh : List ℕ
+  pub size : ℕ
+  pub out : List ℕ
+
+-- a number from low to high
+abbrev pub in_range : ℕ → ℕ → ℕ → Option ℕ
+in_range low high n = if nat_le low n && nat_le n high then Some n else None
+
+-- a word of digits alone, with a value from low to high
+unfoldable pub number_in : ℕ → ℕ → List ℕ → Option ℕ
+number_in low high word = do
+  n ← natural_of word
+  in_range low high n
+
+-- the words behind this one, if it comes first
+abbrev pub after_flag : List ℕ → List (List ℕ) → Option (List (List ℕ))
+after_flag name [] = None
+after_flag name (word ∷ words) = if bytes_eq word name then Some words else None
+
+-- the first word, and those behind it
+abbrev pub first_of : List (List ℕ) → Option (List ℕ × List (List ℕ))
+first_of [] = None
+first_of (word ∷ words) = Some (word, words)
+
+-- the value of this option, and the words behind it, if the option comes first
+unfoldable pub value_of : List ℕ → List (List ℕ) → Option (List ℕ × List (List ℕ))
+value_of name words = do
+  rest ← after_flag name words
+  first_of rest
+
+-- the value as a number, likewise
+unfoldable pub number_of : List ℕ → ℕ → ℕ → List (List ℕ) → Option (ℕ × List (List ℕ))
+number_of name low high words = do
+  value ← value_of name words
+  n ← number_in low high value.0
+  Some (n, value.1)
+
+-- the words --plain --mesh M --uniform H --rounds 0 --collapse 0 --swap 0 --out X, in this order
+unfoldable pub job_of : List (List ℕ) → Option Job
+job_of words = do
+  options ← after_flag (codes "--plain") words
+  mesh ← value_of (codes "--mesh") options
+  size ← number_of (codes "--uniform") 1 (2 ^ 30) mesh.1
+  rounds ← number_of (codes "--rounds") 0 0 size.1
+  collapse ← number_of (codes "--collapse") 0 0 rounds.1
+  swap ← number_of (codes "--swap") 0 0 collapse.1
+  out ← value_of (codes "--out") swap.1
+  if length out.1 == 0 then Some (record { mesh = mesh.0; size = size.0; out = out.0 }) else None

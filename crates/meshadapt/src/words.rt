@@ -1,0 +1,95 @@
+// The command line.
+ghost use Rattle.std.specs.Prelude.{◌≡◌, ◌≤◌, ◌^◌, map, string_bytes};
+ghost use Rattle.std.specs.Option.{option_map};
+ghost use Rattle.meshadapt.specs.Words.{after_flag, in_range, job_of, number_in, number_of, value_of};
+
+use msh_read::natural;
+
+/// What the words ask for.
+#[derive(Clone, Copy, Debug)]
+pub struct Job<'a> {
+    /// The file of the mesh.
+    pub mesh: &'a str,
+    /// The size of edges.
+    pub size: u32,
+    /// The front of the names of what is stored.
+    pub out: &'a str,
+}
+
+/// The number, if it is from `low` to `high`.
+fn in_range(low: u32, high: u32, value: u64) -> Option<u32>
+    ensures { result ≡ in_range low high value }
+{
+    if u64::from(low) <= value && value <= u64::from(high) {
+        Some(value as u32)
+    } else {
+        None
+    }
+}
+
+/// A number from `low` to `high`, in decimal digits alone.
+fn number_in(low: u32, high: u32, word: &str) -> Option<u32>
+    requires { high ≤ 2 ^ 30 }
+    ensures { result ≡ number_in low high word.now }
+{
+    match natural(word.as_bytes()) {
+        Some(value) => in_range(low, high, value),
+        None => None,
+    }
+}
+
+/// The words behind the flag, if it comes first.
+fn after_flag<'a>(name: &str, words: &'a [String]) -> Option<&'a [String]>
+    ensures { option_map (λ rest. map string_bytes rest.now) result ≡ after_flag name.now (map string_bytes words.now) }
+{
+    match words {
+        [first, rest @ ..] if first.as_str() == name => Some(rest),
+        _ => None,
+    }
+}
+
+/// The value of an option, and the words behind it, if the option comes first.
+#[tactic(auto, unfolding(crate::specs::Words::value_of))]
+fn value_of<'a>(name: &str, words: &'a [String]) -> Option<(&'a str, &'a [String])>
+    ensures { option_map (λ x. (x.0.now, map string_bytes x.1.now)) result ≡ value_of name.now (map string_bytes words.now) }
+{
+    match after_flag(name, words)? {
+        [first, rest @ ..] => Some((first.as_str(), rest)),
+        [] => None,
+    }
+}
+
+/// The value of an option as a number from `low` to `high`, likewise.
+#[tactic(auto, unfolding(crate::specs::Words::number_of))]
+fn number_of<'a>(
+    name: &str,
+    low: u32,
+    high: u32,
+    words: &'a [String],
+) -> Option<(u32, &'a [String])>
+    requires { high ≤ 2 ^ 30 }
+    ensures { option_map (λ x. (x.0, map string_bytes x.1.now)) result ≡ number_of name.now low high (map string_bytes words.now) }
+{
+    let (value, rest) = value_of(name, words)?;
+    let n = number_in(low, high, value)?;
+    Some((n, rest))
+}
+
+/// The job that the words ask for. None where they aren't of the one form, in its order.
+#[tactic(auto, unfolding(crate::specs::Words::job_of))]
+pub fn job_of<'a>(words: &'a [String]) -> Option<Job<'a>>
+    ensures { option_map (λ job. record { mesh = job.mesh.now; size = job.size; out = job.out.now }) result ≡ job_of (map string_bytes words.now) }
+{
+    let options = after_flag("--plain", words)?;
+    let (mesh, options) = value_of("--mesh", options)?;
+    let (size, options) = number_of("--uniform", 1, 1 << 30, options)?;
+    let (_rounds, options) = number_of("--rounds", 0, 0, options)?;
+    let (_collapse, options) = number_of("--collapse", 0, 0, options)?;
+    let (_swap, options) = number_of("--swap", 0, 0, options)?;
+    let (out, options) = value_of("--out", options)?;
+    if options.is_empty() {
+        Some(Job { mesh, size, out })
+    } else {
+        None
+    }
+}
