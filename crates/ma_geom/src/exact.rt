@@ -14,7 +14,7 @@ pub fn difference(a: i32, b: i32) -> i128
 }
 
 /// The product of two differences.
-fn product(p: i128, q: i128) -> i128
+pub fn product(p: i128, q: i128) -> i128
     requires p_in { unsigned_abs p ≤ 2 ^ 31 }
     requires q_in { unsigned_abs q ≤ 2 ^ 31 }
     ensures value { result ≡ p *ℤ q }
@@ -54,4 +54,15 @@ pub fn total(a: i128, b: i128, c: i128) -> i128
     ensures bound { unsigned_abs result ≤ 3 * 2 ^ 94 }
 {
     a + b + c
+}
+
+/// The sum of three products of differences.
+pub fn short_total(p: i128, q: i128, r: i128) -> i128
+    requires p_in { unsigned_abs p ≤ 2 ^ 62 }
+    requires q_in { unsigned_abs q ≤ 2 ^ 62 }
+    requires r_in { unsigned_abs r ≤ 2 ^ 62 }
+    ensures value { result ≡ (p +ℤ q) +ℤ r }
+    ensures bound { unsigned_abs result ≤ 3 * 2 ^ 62 }
+{
+    p + q + r
 }

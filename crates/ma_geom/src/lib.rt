@@ -2,11 +2,23 @@
 #![tactic(auto)]
 
 mod exact;
+mod lengths;
+mod lines;
 mod memory;
+mod midpoints;
 mod place;
+mod qualities;
+mod signs;
+mod turns;
 
+pub use lengths::len2;
+pub use lines::{between, collinear, coplanar};
 pub use memory::Memory;
+pub use midpoints::midpoint;
 pub use place::{Place, vol6};
+pub use qualities::quality;
+pub use signs::{Sign, side};
+pub use turns::same_turn;
 
 #[cfg(test)]
 mod tests;

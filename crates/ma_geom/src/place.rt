@@ -55,6 +55,16 @@ impl Place {
         }
     }
 
+    /// The place with these coordinates, which are in range.
+    pub(crate) fn within(x: i32, y: i32, z: i32) -> Place
+        requires x_in { unsigned_abs x ≤ limit }
+        requires y_in { unsigned_abs y ≤ limit }
+        requires z_in { unsigned_abs z ≤ limit }
+        ensures { result ≡ record { x = x; y = y; z = z } }
+    {
+        Place { x, y, z }
+    }
+
     pub fn x(&self) -> i32
         ensures value { result ≡ self.now.x }
         ensures range { unsigned_abs result ≤ limit }
@@ -79,13 +89,13 @@ impl Place {
 
 /// A vector between two places.
 #[derive(Clone, Copy)]
-struct Vector {
-    x: i128,
-    y: i128,
-    z: i128,
+pub(crate) struct Vector {
+    pub(crate) x: i128,
+    pub(crate) y: i128,
+    pub(crate) z: i128,
 }
 
-fn between_places(from: Place, to: Place) -> Vector
+pub(crate) fn between_places(from: Place, to: Place) -> Vector
     ensures value { (result.x ≡ to.x -ℤ from.x) × (result.y ≡ to.y -ℤ from.y) × (result.z ≡ to.z -ℤ from.z) }
     ensures bound { (unsigned_abs result.x ≤ 2 ^ 31) × (unsigned_abs result.y ≤ 2 ^ 31) × (unsigned_abs result.z ≤ 2 ^ 31) }
 {
