@@ -46,7 +46,7 @@ module _ {K : Type 0} {R : K → K → Ordering} (o : IsTotalOrder R) where
   less_turned x y e = o.antisymm y x ∙ ap ordering_reverse e
 
   -- what is below an item is below all that the item is below
-  all_below : (x y : K) (zs : List K) → R x y ≡ Less → AllByRecursion (λ z. R y z ≡ Less) zs → AllByRecursion (λ z. R x z ≡ Less) zs
+  pub all_below : (x y : K) (zs : List K) → R x y ≡ Less → AllByRecursion (λ z. R y z ≡ Less) zs → AllByRecursion (λ z. R x z ≡ Less) zs
   all_below x y [] e h = tt
   all_below x y (z ∷ zs) e h = (o.trans x y z e h.0, all_below x y zs e h.1)
 

@@ -1,5 +1,5 @@
 -- The four corners of a tetrahedron, by their places and as a list.
-use Rattle.std.proofs.Common.{◌≡◌, true, false, List, [], ◌∷◌, length, get_or, eqb, Option, Some, None, refl, sym, subst, ◌∙◌, arith}
+use Rattle.std.proofs.Common.{◌≡◌, true, false, not, ◌&&◌, List, [], ◌∷◌, length, get_or, eqb, Option, Some, None, refl, sym, subst, ◌∙◌, arith}
 use Rattle.std.specs.Prelude.{ℤ, pos}
 use Rattle.std.proofs.lemmas.Bool.{false≢true}
 use Rattle.std.specs.List.Sorted.{IsPermutation, IsSorted}
@@ -8,8 +8,13 @@ use Rattle.ma_geom.specs.Coordinates.{Coordinates, place_cmp}
 use Rattle.ma_geom.specs.Volume.{vol6}
 use Rattle.ma_geom.proofs.PlaceOrder.{place_cmp_total, place_cmp-IsAntisymmetric}
 use Rattle.ma_cells.specs.Ascending.{are_ascending, are_distinct, ascending_of}
-use Rattle.ma_cells.specs.Tetrahedron.{Tetrahedron, is_flat, tetrahedron_of}
+use Rattle.ma_cells.specs.Tetrahedron.{Tetrahedron, are_corners, is_flat, tetrahedron_of}
 use Rattle.ma_cells.proofs.Ascents.{ascending_from_distinct, ascending_of-IsPermutation, is-ascending_of, length-ascending_of, strict_from_ascending}
+
+-- the corners of a tetrahedron ascend
+pub corners_rise : (places : List Coordinates) → are_corners places ≡ true → are_ascending place_cmp places ≡ true
+corners_rise places h =
+    elim (are_ascending place_cmp places) as (λ b. (b && not (is_flat places)) ≡ true → b ≡ true) [ true ↦ λ _. refl | false ↦ λ k. absurd (false≢true k) ] h
 
 -- a list of four by its places
 pub is_flat-four : (places : List Coordinates) (a b c d : Coordinates) → length places ≡ 4
@@ -31,10 +36,10 @@ is_flat-fewer (v ∷ w ∷ x ∷ y ∷ []) h = absurd (false≢true (sym h))
 is_flat-fewer (v ∷ w ∷ x ∷ y ∷ z ∷ zs) h = refl
 
 -- what places sort to is what `tetrahedron_of` takes as corners
-sorted_corners : (places moved : List Coordinates) → IsPermutation places moved → ascending_of place_cmp places ≡ ascending_of place_cmp moved
+pub sorted_corners : (places moved : List Coordinates) → IsPermutation places moved → ascending_of place_cmp places ≡ ascending_of place_cmp moved
 sorted_corners places moved is = ascending_of-IsPermutation place_cmp_total place_cmp-IsAntisymmetric places moved is
 
-ascending_is : (moved : List Coordinates) → are_ascending place_cmp moved ≡ true → ascending_of place_cmp moved ≡ moved
+pub ascending_is : (moved : List Coordinates) → are_ascending place_cmp moved ≡ true → ascending_of place_cmp moved ≡ moved
 ascending_is moved rises = sym (is-ascending_of place_cmp_total place_cmp-IsAntisymmetric moved moved (strict_from_ascending place_cmp_total moved rises) (λ _. refl))
 
 -- what the tetrahedron of these places is, if they sort to corners

@@ -1,3 +1,7 @@
 pub mod Ascending
 pub mod Tetrahedron
 pub mod Cells
+pub mod Faces
+pub mod Meshes
+pub mod Views
+pub mod Bisection

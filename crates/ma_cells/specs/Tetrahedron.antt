@@ -1,10 +1,10 @@
 -- Tetrahedra as sets of four places, with a region.
-use Rattle.std.specs.Prelude.{ℤ, pos, Bool, true, not, ◌&&◌, if◌then◌else◌, List, [], ◌∷◌, Option, Some, None}
+use Rattle.std.specs.Prelude.{ℤ, Bool, not, ◌&&◌, if◌then◌else◌, List, Option, Some, None}
 use Rattle.std.specs.declared.cmp.Ordering.{Ordering}
 use Rattle.std.specs.Cmp.Lexicographic.{slice_cmp}
-use Rattle.std.specs.Ordering.{int_cmp, int_eq, ordering_then}
+use Rattle.std.specs.Ordering.{int_cmp, ordering_then}
 use Rattle.ma_geom.specs.Coordinates.{Coordinates, place_cmp}
-use Rattle.ma_geom.specs.Volume.{vol6}
+pub use Rattle.ma_geom.specs.Lines.{is_flat}
 use Rattle.ma_cells.specs.Ascending.{are_ascending, ascending_of}
 
 -- the corners, and the region (phys, elem)
@@ -12,11 +12,6 @@ pub record Tetrahedron : Type 0 where
   pub corners : List Coordinates
   pub phys : ℤ
   pub elem : ℤ
-
--- whether these corners span no volume: they aren't four, or lie in one plane
-abbrev pub is_flat : List Coordinates → Bool
-is_flat (a ∷ b ∷ c ∷ d ∷ []) = int_eq (vol6 a b c d) (pos 0)
-is_flat _ = true
 
 -- whether these are the corners of a tetrahedron, as a tetrahedron keeps them
 abbrev pub are_corners : List Coordinates → Bool

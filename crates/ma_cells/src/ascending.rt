@@ -2,7 +2,8 @@
 ghost use Rattle.std.specs.Prelude.{◌≡◌, ◌↔◌, ◌==◌, length, IsTrue, [], vec_len};
 ghost use Rattle.std.specs.FinMap.{IsAntisymmetric};
 ghost use Rattle.std.specs.List.Sorted.{IsStrictlySortedBy};
-ghost use Rattle.ma_cells.specs.Ascending.{are_distinct, ascending_of};
+ghost use Rattle.std.specs.List.{list_all};
+ghost use Rattle.ma_cells.specs.Ascending.{are_distinct, ascending_of, has};
 
 use std::alloc::Global;
 use std::marker::Model;
@@ -83,4 +84,17 @@ impl<T: Ord + Drop> Ascending<T> {
         items.dedup();
         Ascending { items }
     }
+}
+
+fn has<T: Ord>(items: &[T], item: &T) -> bool
+    ensures { result ≡ has T.cmp item.now items.now }
+{
+    items.contains(item)
+}
+
+/// Whether each of the wanted is among the items.
+pub(crate) fn has_all<T: Ord>(items: &[T], wanted: &[T]) -> bool
+    ensures { result ≡ list_all (λ item. has T.cmp item items.now) wanted.now }
+{
+    wanted.iter().all(|item| has(items, item))
 }

@@ -1,7 +1,8 @@
 // Cells of less than three dimensions, and marks on them.
-ghost use Rattle.std.specs.Prelude.{◌≡◌, true};
-ghost use Rattle.ma_cells.specs.Cells.{is_cell};
+ghost use Rattle.std.specs.Prelude.{◌≡◌, true, IfSome};
+ghost use Rattle.ma_cells.specs.Cells.{cell_of, is_cell};
 
+use crate::tet::are_ascending;
 use ma_geom::Place;
 use std::marker::Model;
 
@@ -12,6 +13,51 @@ pub enum Cell {
     Point(Place),
     Seg([Place; 2]),
     Tri([Place; 3]),
+}
+
+fn segment(mut ends: [Place; 2]) -> Option<Cell>
+    ensures { result ≡ cell_of ends }
+{
+    ends.sort_unstable();
+    if are_ascending(&ends) {
+        Some(Cell::Seg(ends))
+    } else {
+        None
+    }
+}
+
+fn triangle(mut corners: [Place; 3]) -> Option<Cell>
+    ensures { result ≡ cell_of corners }
+{
+    corners.sort_unstable();
+    if are_ascending(&corners) {
+        Some(Cell::Tri(corners))
+    } else {
+        None
+    }
+}
+
+fn cornered(corners: &[Place]) -> Option<Cell>
+    ensures { result ≡ cell_of corners.now }
+{
+    match corners {
+        [] => None,
+        [a] => Some(Cell::Point(*a)),
+        [a, b] => segment([*a, *b]),
+        [a, b, c] => triangle([*a, *b, *c]),
+        _ => None,
+    }
+}
+
+impl Cell {
+    /// The cell with these corners, given in any order. None where they aren't one to three, or two
+    /// are equal. Takes no memory.
+    pub fn new(corners: &[Place]) -> Option<Cell>
+        ensures value { result ≡ cell_of corners.now }
+        ensures cell { IfSome result (λ cell. is_cell cell ≡ true) }
+    {
+        cornered(corners)
+    }
 }
 
 /// A mark on a cell, with a tag, the pair of `phys` and `elem`. Marks are ordered by cell, then

@@ -1,4 +1,6 @@
 // Values that were worked out by hand.
+ghost use Rattle.std.specs.Prelude.{◌≡◌, ◌↔◌, IsTrue};
+
 use super::*;
 use ma_geom::Place;
 use std::test::Fail;
@@ -60,6 +62,22 @@ fn marks_are_ordered_by_dimension_then_corners_then_tag(rt: HostRuntime) -> Resu
     Ok(())
 }
 
+/// Marks are equal where contracts see equal records.
+fn are_equal(m: &Mark, n: &Mark) -> bool
+    ensures { IsTrue result ↔ (m.now ≡ n.now) }
+{
+    m == n
+}
+
+#[test]
+fn marks_with_other_tags_differ(rt: HostRuntime) -> Result<(), Fail> {
+    let cell = Cell::Point(place(0, 8, 0)?);
+    let mark = Mark::new(cell, 1, 2);
+    assert!(rt; are_equal(&mark, &Mark::new(cell, 1, 2)));
+    assert!(rt; !are_equal(&mark, &Mark::new(cell, 2, 1)));
+    Ok(())
+}
+
 #[test]
 fn a_batch_is_gathered_in_order_and_without_repeats(rt: HostRuntime) -> Result<(), Fail> {
     let (o, x, y, z) = (
@@ -96,5 +114,92 @@ fn an_ascending_list_is_taken_and_given_back(rt: HostRuntime) -> Result<(), Fail
     assert!(rt; empty.is_empty());
     let given = Ascending::from_vec(Ascending::gather(vec![in rt.alloc(); 5u32, 3, 5]?).into_vec());
     assert_eq!(rt; given.into_vec().as_slice(), [3u32, 5].as_slice());
+    Ok(())
+}
+
+#[test]
+fn faces_and_edges_come_in_the_order_of_their_corners(rt: HostRuntime) -> Result<(), Fail> {
+    let (o, z, y, x) = (
+        place(0, 0, 0)?,
+        place(0, 0, 8)?,
+        place(0, 8, 0)?,
+        place(8, 0, 0)?,
+    );
+    let t = tet([x, y, z, o], 0, 1)?;
+    assert_eq!(rt; t.faces(), [[o, z, y], [o, z, x], [o, y, x], [z, y, x]]);
+    assert_eq!(rt; t.edges(), [[o, z], [o, y], [o, x], [z, y], [z, x], [y, x]]);
+    Ok(())
+}
+
+#[test]
+fn a_tetrahedron_holds_its_corners_alone(rt: HostRuntime) -> Result<(), Fail> {
+    let (o, z, y, x) = (
+        place(0, 0, 0)?,
+        place(0, 0, 8)?,
+        place(0, 8, 0)?,
+        place(8, 0, 0)?,
+    );
+    let t = tet([o, z, y, x], 0, 1)?;
+    assert!(rt; t.holds(&[x, z]));
+    assert!(rt; !t.holds(&[z, place(0, 8, 8)?]));
+    assert!(rt; t.holds(&[]));
+    Ok(())
+}
+
+#[test]
+fn a_cell_has_one_to_three_different_corners(rt: HostRuntime) -> Result<(), Fail> {
+    let (o, z, y, x) = (
+        place(0, 0, 0)?,
+        place(0, 0, 8)?,
+        place(0, 8, 0)?,
+        place(8, 0, 0)?,
+    );
+    assert!(rt; Cell::new(&[]).is_none());
+    assert_eq!(rt; Cell::new(&[y]), Some(Cell::Point(y)));
+    assert_eq!(rt; Cell::new(&[y, z]), Some(Cell::Seg([z, y])));
+    assert_eq!(rt; Cell::new(&[x, o, y]), Some(Cell::Tri([o, y, x])));
+    assert!(rt; Cell::new(&[o, z, y, x]).is_none());
+    assert!(rt; Cell::new(&[z, z]).is_none());
+    assert!(rt; Cell::new(&[z, o, z]).is_none());
+    Ok(())
+}
+
+#[test]
+fn a_mesh_keeps_its_order_and_its_count_of_loose_marks(rt: HostRuntime) -> Result<(), Fail> {
+    let (o, z, y, x) = (
+        place(0, 0, 0)?,
+        place(0, 0, 8)?,
+        place(0, 8, 0)?,
+        place(8, 0, 0)?,
+    );
+    let t = tet([o, z, y, x], 0, 1)?;
+    let mark = Mark::new(Cell::Point(y), 9, 9);
+    let marks = Ascending::gather(vec![in rt.alloc(); mark]?);
+    let mesh = Mesh::new(vec![in rt.alloc(); t]?, marks, 3);
+    assert_eq!(rt; mesh.tets(), [t].as_slice());
+    assert_eq!(rt; mesh.marks(), [mark].as_slice());
+    assert_eq!(rt; mesh.loose(), 3);
+    Ok(())
+}
+
+#[test]
+fn ghosts_are_ordered_by_tetrahedron_then_label(rt: HostRuntime) -> Result<(), Fail> {
+    let (o, z, y, x) = (
+        place(0, 0, 0)?,
+        place(0, 0, 8)?,
+        place(0, 8, 0)?,
+        place(8, 0, 0)?,
+    );
+    let (first, second) = (tet([o, z, y, x], 0, 1)?, tet([o, z, y, x], 0, 2)?);
+    let own = vec![in rt.alloc(); second]?;
+    let ghosts = vec![in rt.alloc(); (second, 1u8), (first, 3), (first, 2), (first, 3)]?;
+    let view = View::gather(4, own, ghosts, Vec::new(rt.alloc()));
+    assert_eq!(rt; view.part, 4);
+    assert_eq!(rt; view.own.as_slice(), [second].as_slice());
+    assert_eq!(rt;
+        view.ghosts.as_slice(),
+        [(first, 2u8), (first, 3), (second, 1)].as_slice()
+    );
+    assert!(rt; view.marks.is_empty());
     Ok(())
 }

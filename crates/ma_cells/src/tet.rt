@@ -1,12 +1,13 @@
 // Tetrahedra.
 ghost use Rattle.std.specs.Prelude.{◌≡◌, pos, true};
-ghost use Rattle.std.specs.Ordering.{int_eq};
+ghost use Rattle.std.specs.List.{list_all};
 ghost use Rattle.ma_geom.specs.Coordinates.{place_cmp};
-ghost use Rattle.ma_geom.specs.Volume.{vol6};
 ghost use Rattle.ma_cells.specs.Ascending.{are_ascending};
+ghost use Rattle.ma_cells.specs.Faces.{edges_of, faces_of, holds_all};
 ghost use Rattle.ma_cells.specs.Tetrahedron.{are_corners, is_flat, tetrahedron_of};
 
-use ma_geom::{Place, vol6};
+use crate::ascending::has_all;
+use ma_geom::{Place, coplanar};
 use std::marker::Model;
 
 /// A tetrahedron with a region, the pair of `phys` and `elem`. Its corners ascend and aren't flat.
@@ -75,16 +76,26 @@ pub(crate) fn are_ascending(places: &[Place]) -> bool
     }
 }
 
-fn are_in_plane(a: Place, b: Place, c: Place, d: Place) -> bool
-    ensures { result ≡ int_eq (vol6 a b c d) (pos 0) }
-{
-    vol6(a, b, c, d) == 0
-}
-
 fn is_flat(corners: [Place; 4]) -> bool
     ensures { result ≡ is_flat corners }
 {
-    are_in_plane(corners[0], corners[1], corners[2], corners[3])
+    coplanar(corners[0], corners[1], corners[2], corners[3])
+}
+
+/// The triples of these places, each in their order.
+fn triples(corners: [Place; 4]) -> [[Place; 3]; 4]
+    ensures { result ≡ faces_of corners }
+{
+    let [a, b, c, d] = corners;
+    [[a, b, c], [a, b, d], [a, c, d], [b, c, d]]
+}
+
+/// The pairs of these places, each in their order.
+fn pairs(corners: [Place; 4]) -> [[Place; 2]; 6]
+    ensures { result ≡ edges_of corners }
+{
+    let [a, b, c, d] = corners;
+    [[a, b], [a, c], [a, d], [b, c], [b, d], [c, d]]
 }
 
 impl Tet {
@@ -121,5 +132,28 @@ impl Tet {
         ensures { result ≡ self.now.elem }
     {
         self.elem
+    }
+
+    /// The triangles of its corners, in the order 012, 013, 023, 123. Takes no memory.
+    pub fn faces(&self) -> [[Place; 3]; 4]
+        ensures value { result ≡ faces_of self.now.corners }
+        ensures rise { list_all (are_ascending place_cmp) result ≡ true }
+    {
+        triples(self.corners)
+    }
+
+    /// The pairs of its corners, in the order 01, 02, 03, 12, 13, 23. Takes no memory.
+    pub fn edges(&self) -> [[Place; 2]; 6]
+        ensures value { result ≡ edges_of self.now.corners }
+        ensures rise { list_all (are_ascending place_cmp) result ≡ true }
+    {
+        pairs(self.corners)
+    }
+
+    /// Whether each of these places is a corner. Takes no memory.
+    pub fn holds(&self, corners: &[Place]) -> bool
+        ensures { result ≡ holds_all self.now.corners corners.now }
+    {
+        has_all(&self.corners, corners)
     }
 }

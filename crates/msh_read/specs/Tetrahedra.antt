@@ -1,8 +1,9 @@
 -- The tetrahedra of a raw mesh as sets of places.
-use Rattle.std.specs.Prelude.{IsTrue, IsSomeAnd, List, map, slice_get, Option}
+use Rattle.std.specs.Prelude.{IsTrue, IsSomeAnd, List, slice_get, Option}
 use Rattle.std.specs.Cmp.Lexicographic.{slice_cmp}
 use Rattle.ma_geom.specs.Coordinates.{Coordinates, place_cmp}
 use Rattle.ma_cells.specs.Ascending.{are_distinct}
+pub use Rattle.ma_cells.specs.Meshes.{corner_sets}
 use Rattle.ma_cells.specs.Tetrahedron.{Tetrahedron, tetrahedron_of}
 use Rattle.msh_read.specs.declared.raw.RawTet.{RawTet}
 use Rattle.msh_read.specs.Steps.{◌>>=◌, each}
@@ -17,9 +18,6 @@ solid_of nodes tet = do
 -- all of them, in file order
 abbrev pub tets_of : Raw → Option (List Tetrahedron)
 tets_of raw = each (solid_of raw.nodes) raw.tets
-
-abbrev pub corner_sets : List Tetrahedron → List (List Coordinates)
-corner_sets tets = map (λ tet. tet.corners) tets
 
 -- no two nodes are at one place, all tetrahedra are there, and no two have the same corners
 pub record IsSound (raw : Raw) : Type 0 where

@@ -161,3 +161,12 @@ fn a_file_without_bytes_has_no_format(rt: HostRuntime) {
     };
     assert!(rt; read_msh(rt.alloc(), b"").err() == Some(fault));
 }
+
+#[test]
+fn digits_alone_write_a_number(rt: HostRuntime) {
+    assert_eq!(rt; natural(b"0042"), Some(42));
+    assert_eq!(rt; natural(b"9223372036854775808"), Some(1 << 63));
+    assert_eq!(rt; natural(b"9223372036854775809"), None);
+    assert_eq!(rt; natural(b"+42"), None);
+    assert_eq!(rt; natural(b""), None);
+}

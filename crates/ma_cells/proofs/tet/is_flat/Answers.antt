@@ -5,4 +5,4 @@ use Rattle.ma_cells.proofs.tet.is_flat.Goals as goal
 pub returns : goal.returns
 returns c =
     let four : length c.args.corners ≡ 4 = omega arith in
-    c.are_in_plane.ensures ∙ is_flat-four c.args.corners _ _ _ _ four
+    c.coplanar.ensures ∙ is_flat-four c.args.corners _ _ _ _ four

@@ -1,0 +1,14 @@
+use Rattle.std.proofs.Common.{◌≡◌, ◌∙◌, sym, length, arith}
+use Rattle.ma_cells.proofs.Cornered.{cell_of-sorted, cell_of-twice, cell_on-three}
+use Rattle.ma_cells.proofs.cell.triangle.Goals as goal
+
+pub returns-then-are_ascending : goal.returns-then-are_ascending
+returns-then-are_ascending c =
+    let whole : length c.sort_unstable.new.self ≡ 3 = omega arith in
+    cell_on-three c.sort_unstable.new.self whole
+    ∙ sym (cell_of-sorted c.args.corners c.sort_unstable.new.self c.sort_unstable.ensures.permutation (sym c.are_ascending.ensures ∙ c.if-are_ascending.true))
+
+pub returns-else-are_ascending : goal.returns-else-are_ascending
+returns-else-are_ascending c =
+    cell_of-twice c.args.corners c.sort_unstable.new.self c.sort_unstable.ensures.permutation c.sort_unstable.ensures.sorted
+    (sym c.are_ascending.ensures ∙ c.if-are_ascending.false)
