@@ -1,0 +1,177 @@
+// A field of sizes over places.
+ghost use Rattle.std.specs.Prelude.{◌≡◌, ◌&&◌, ◌≤◌, ◌*◌, ◌^◌, ◌*ℤ◌, pos, int_lt, min, unsigned_abs, [], true};
+ghost use Rattle.size_marks.specs.Field.{greatest_size, holds, is_long, is_short, is_size, is_within, size_along, size_at};
+
+use ma_geom::{Place, len2};
+use std::alloc::Global;
+use std::marker::Model;
+
+/// The places from `low` to `high` in each coordinate, both included, with a size. Where a
+/// coordinate of `low` is greater than that of `high`, it holds no place.
+#[derive(Clone, Copy, Debug, PartialEq, Eq)]
+pub struct SizeBox {
+    low: Place,
+    high: Place,
+    size: u32,
+}
+
+impl Model for SizeBox {
+    ghost use Rattle.std.specs.Prelude.{◌≡◌, true};
+    ghost use Rattle.size_marks.specs.Field.{BoxedSize, is_size};
+
+    ghost Value = { BoxedSize };
+
+    ghost view = { λ b. record { low = b.low; high = b.high; size = b.size } };
+
+    ghost invariant = { λ b. is_size b.size ≡ true };
+
+    ghost inverse = { λ b. record { low = b.low; high = b.high; size = b.size } };
+}
+
+fn is_within(low: i32, high: i32, c: i32) -> bool
+    ensures { result ≡ is_within low high c }
+{
+    low <= c && c <= high
+}
+
+fn are_true(x: bool, y: bool, z: bool) -> bool
+    ensures { result ≡ (x && (y && z)) }
+{
+    x && y && z
+}
+
+impl SizeBox {
+    pub fn new(low: Place, high: Place, size: u32) -> SizeBox
+        requires { is_size size ≡ true }
+        ensures { result ≡ record { low = low; high = high; size = size } }
+    {
+        SizeBox { low, high, size }
+    }
+
+    pub fn size(&self) -> u32
+        ensures value { result ≡ self.now.size }
+        ensures range { is_size result ≡ true }
+    {
+        self.size
+    }
+
+    /// Whether the place is in the box.
+    pub fn holds(&self, p: Place) -> bool
+        ensures { result ≡ holds self.now p }
+    {
+        let (low, high) = (self.low, self.high);
+        let x = is_within(low.x(), high.x(), p.x());
+        let y = is_within(low.y(), high.y(), p.y());
+        let z = is_within(low.z(), high.z(), p.z());
+        are_true(x, y, z)
+    }
+}
+
+/// A size for all places, and boxes with sizes of their own. Sizes are 1 to 2^30.
+#[derive(Debug, Drop)]
+pub struct SizeField {
+    default: u32,
+    boxes: Vec<SizeBox>,
+}
+
+impl Model for SizeField {
+    ghost use Rattle.std.specs.Prelude.{◌≡◌, true};
+    ghost use Rattle.size_marks.specs.Field.{Field, is_size};
+
+    ghost Value = { Field };
+
+    ghost view = { λ f. record { default = f.default; boxes = f.boxes.items } };
+
+    ghost invariant = { λ f. is_size f.default ≡ true };
+}
+
+/// The size at a place, with these boxes.
+fn size_among(default: u32, boxes: &[SizeBox], p: Place) -> u32
+    requires { is_size default ≡ true }
+    ensures range { is_size result ≡ true }
+    ensures value { result ≡ size_at (record { default = default; boxes = boxes.now }) p }
+{
+    let mut size = default;
+    for b in boxes {
+        if b.holds(p) {
+            size = b.size();
+        }
+    }
+    size
+}
+
+/// Whether a squared length is past `9/4` of the square of a size.
+fn is_longer(length2: i128, size: u32) -> bool
+    requires length { unsigned_abs length2 ≤ 3 * 2 ^ 62 }
+    requires size { size ≤ greatest_size }
+    ensures { result ≡ int_lt (pos (9 * (size * size))) (pos 4 *ℤ length2) }
+{
+    let size = u128::from(size);
+    let bound = (9 * (size * size)) as i128;
+    bound < 4 * length2
+}
+
+/// Whether a squared length is below a quarter of the square of a size.
+fn is_shorter(length2: i128, size: u32) -> bool
+    requires length { unsigned_abs length2 ≤ 3 * 2 ^ 62 }
+    requires size { size ≤ greatest_size }
+    ensures { result ≡ int_lt (pos 4 *ℤ length2) (pos (size * size)) }
+{
+    let size = u128::from(size);
+    let bound = (size * size) as i128;
+    4 * length2 < bound
+}
+
+fn lesser(a: u32, b: u32) -> u32
+    requires a_in { is_size a ≡ true }
+    requires b_in { is_size b ≡ true }
+    ensures value { result ≡ min a b }
+    ensures bound { result ≤ greatest_size }
+{
+    a.min(b)
+}
+
+impl SizeField {
+    /// One size for all places. Takes no memory.
+    pub fn uniform(alloc: Global, size: u32) -> SizeField
+        requires { is_size size ≡ true }
+        ensures { result ≡ record { default = size; boxes = [] } }
+    {
+        SizeField {
+            default: size,
+            boxes: Vec::new(alloc),
+        }
+    }
+
+    /// The size of the last box that holds the place, else the default.
+    pub fn size_at(&self, p: Place) -> u32
+        ensures value { result ≡ size_at self.now p }
+        ensures range { is_size result ≡ true }
+    {
+        size_among(self.default, &self.boxes, p)
+    }
+
+    /// The lesser size of the two ends of an edge.
+    fn size_along(&self, a: Place, b: Place) -> u32
+        ensures value { result ≡ size_along self.now a b }
+        ensures bound { result ≤ greatest_size }
+    {
+        lesser(self.size_at(a), self.size_at(b))
+    }
+
+    /// Whether the edge is longer than three halves of its size, the lesser one of its two ends.
+    #[tactic(auto, unfolding(crate::specs::Field::is_long))]
+    pub fn is_long(&self, a: Place, b: Place) -> bool
+        ensures { result ≡ is_long self.now a b }
+    {
+        is_longer(len2(a, b), self.size_along(a, b))
+    }
+
+    /// Whether the edge is shorter than half of its size, the lesser one of its two ends.
+    #[tactic(auto, unfolding(crate::specs::Field::is_short))]
+    pub fn is_short(&self, a: Place, b: Place) -> bool
+        ensures { result ≡ is_short self.now a b }
+    {
+        is_shorter(len2(a, b), self.size_along(a, b))
+    }
+}

@@ -1,0 +1,9 @@
+//! The size that the edges of a mesh are to have, by place, and which edges are long and short.
+#![tactic(auto)]
+
+mod field;
+
+pub use field::{SizeBox, SizeField};
+
+#[cfg(test)]
+mod tests;
