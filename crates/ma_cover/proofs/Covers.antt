@@ -1,0 +1,167 @@
+-- Bisection keeps cover, of one tetrahedron and of a list.
+use Rattle.std.proofs.Common.{◌≡◌, ◌≢◌, ℕ, ◌+◌, Bool, true, false, cond, ◌&&◌, ◌||◌, List, [], ◌∷◌, ◌++◌, refl, sym, ap, ap₂, subst, ◌∙◌, arith}
+use Rattle.std.specs.Prelude.{ℤ, pos, map}
+use Rattle.std.specs.List.{count_by, flat_map, list_all}
+use Rattle.std.specs.List.Sorted.{IsPermutation}
+use Rattle.std.specs.Ordering.{eq_by_cmp, int_eq}
+use Rattle.std.proofs.lemmas.Bool.{false≢true}
+use Rattle.std.proofs.lemmas.List.Sorted.{IsPermutation-sym, length_permutation}
+use Rattle.std.proofs.lemmas.List.Sums.{sum_by-append}
+use Rattle.ma_geom.specs.Coordinates.{Coordinates, place_cmp}
+use Rattle.ma_geom.specs.Rational.{Rational, IsMiddle}
+use Rattle.ma_geom.specs.Volume.{vol6}
+use Rattle.ma_cells.specs.Ascending.{ascending_of, has}
+use Rattle.ma_cells.specs.Bisection.{bisect, bisect_tet, replaced}
+use Rattle.ma_cells.specs.Faces.{holds_all}
+use Rattle.ma_cells.specs.Tetrahedron.{Tetrahedron, are_corners}
+use Rattle.ma_cells.proofs.Bisections.{bisect-with}
+use Rattle.ma_cover.specs.Cover.{cover, whole_cover}
+use Rattle.ma_cover.specs.Inside.{is_inside}
+use Rattle.ma_cover.specs.OnFaces.{IsOffFaces, IsOffFacesOf, IsOffTriangle}
+use Rattle.ma_cover.proofs.Exchanges.{in_any_order, inside_in_any_order}
+use Rattle.ma_cover.proofs.Halves.{halves_keep_cover, on_turned, on_exchanged}
+use Rattle.ma_cover.proofs.Permutations.{ascending_of-permutes, has-permutation, tied}
+use Rattle.ma_cover.proofs.Pieces.{distinct_corners, has_edge, replaced_first, replaced_second}
+
+-- ---- off the faces, in any order of the corners
+off_exchanged : (a b c : Coordinates) (p : Rational) → IsOffTriangle a b c p → IsOffTriangle b a c p
+off_exchanged a b c p off on = off (on_exchanged a b c p on)
+
+off_turned : (a b c : Coordinates) (p : Rational) → IsOffTriangle a b c p → IsOffTriangle a c b p
+off_turned a b c p off on = off (on_turned a b c p on)
+
+module _ (p : Rational) where
+  abbrev OffAll : Coordinates → Coordinates → Coordinates → Coordinates → Type 0
+  OffAll a b c d = IsOffFacesOf p (a ∷ b ∷ c ∷ d ∷ [])
+
+  off_ab : (a b c d : Coordinates) → OffAll a b c d → OffAll b a c d
+  off_ab a b c d h = (off_exchanged a b c p h.0, (off_exchanged a b d p h.1.0, (h.1.1.1.0, (h.1.1.0, tt))))
+
+  off_bc : (a b c d : Coordinates) → OffAll a b c d → OffAll a c b d
+  off_bc a b c d h = (off_turned a b c p h.0, (h.1.1.0, (h.1.0, (off_exchanged b c d p h.1.1.1.0, tt))))
+
+  off_cd : (a b c d : Coordinates) → OffAll a b c d → OffAll a b d c
+  off_cd a b c d h = (h.1.0, (h.0, (off_turned a c d p h.1.1.0, (off_turned b c d p h.1.1.1.0, tt))))
+
+  -- the faces at the corner that is listed first, so far as its triangle with the last two
+  off_first : (a b c d : Coordinates) (others : List Coordinates) → IsPermutation (a ∷ b ∷ c ∷ d ∷ []) others → IsOffFacesOf p others → IsOffTriangle a c d p
+  off_first a b c d (w ∷ x ∷ y ∷ z ∷ []) moved off =
+      (in_any_order OffAll off_ab off_bc off_cd w x y z (a ∷ b ∷ c ∷ d ∷ []) (IsPermutation-sym (a ∷ b ∷ c ∷ d ∷ []) (w ∷ x ∷ y ∷ z ∷ []) moved) off).1.1.0
+  off_first a b c d [] moved off = let long = length_permutation (a ∷ b ∷ c ∷ d ∷ []) [] moved in absurd (omega arith)
+  off_first a b c d (w ∷ []) moved off = let long = length_permutation (a ∷ b ∷ c ∷ d ∷ []) (w ∷ []) moved in absurd (omega arith)
+  off_first a b c d (w ∷ x ∷ []) moved off = let long = length_permutation (a ∷ b ∷ c ∷ d ∷ []) (w ∷ x ∷ []) moved in absurd (omega arith)
+  off_first a b c d (w ∷ x ∷ y ∷ []) moved off = let long = length_permutation (a ∷ b ∷ c ∷ d ∷ []) (w ∷ x ∷ y ∷ []) moved in absurd (omega arith)
+  off_first a b c d (w ∷ x ∷ y ∷ z ∷ t ∷ l) moved off = let long = length_permutation (a ∷ b ∷ c ∷ d ∷ []) (w ∷ x ∷ y ∷ z ∷ t ∷ l) moved in absurd (omega arith)
+
+  all_left : (xs ys : List Tetrahedron) → IsOffFaces p (xs ++ ys) → IsOffFaces p xs
+  all_left [] ys h = tt
+  all_left (x ∷ xs) ys h = (h.0, all_left xs ys h.1)
+
+  all_right : (xs ys : List Tetrahedron) → IsOffFaces p (xs ++ ys) → IsOffFaces p ys
+  all_right [] ys h = h
+  all_right (x ∷ xs) ys h = all_right xs ys h.1
+
+first_and_rest : (s t : Bool) → (s && t) ≡ true → (s ≡ true) × (t ≡ true)
+first_and_rest true true e = (refl, refl)
+first_and_rest true false e = absurd (false≢true e)
+first_and_rest false t e = absurd (false≢true e)
+
+-- ---- one tetrahedron
+same_count : (f : List Coordinates → Bool) (u v w u' v' w' : List Coordinates) → f u' ≡ f u → f v' ≡ f v → f w' ≡ f w
+    → count_by f (u ∷ v ∷ []) ≡ count_by f (w ∷ []) → count_by f (u' ∷ v' ∷ []) ≡ count_by f (w' ∷ [])
+same_count f u v w u' v' w' e g h k = rw (e, g, h) k
+
+pub replaced_count : (m a b c d : Coordinates) (corners : List Coordinates) (p : Rational) → IsPermutation (a ∷ b ∷ c ∷ d ∷ []) corners → IsMiddle m a b → vol6 a b c d ≢ pos 0 → IsOffTriangle m c d p
+    → count_by (is_inside p) (replaced a m corners ∷ replaced b m corners ∷ []) ≡ count_by (is_inside p) (corners ∷ [])
+replaced_count m a b c d corners p moved middle solid off =
+    same_count (is_inside p) (m ∷ b ∷ c ∷ d ∷ []) (a ∷ m ∷ c ∷ d ∷ []) (a ∷ b ∷ c ∷ d ∷ []) (replaced a m corners) (replaced b m corners) corners
+    (inside_in_any_order p (m ∷ b ∷ c ∷ d ∷ []) (replaced a m corners) (replaced_first m a b c d corners moved middle solid))
+    (inside_in_any_order p (a ∷ m ∷ c ∷ d ∷ []) (replaced b m corners) (replaced_second m a b c d corners moved middle solid))
+    (inside_in_any_order p (a ∷ b ∷ c ∷ d ∷ []) corners moved)
+    (halves_keep_cover m a b c d p middle solid off)
+
+sorted : (a b c d : Coordinates) → vol6 a b c d ≢ pos 0 → IsPermutation (a ∷ b ∷ c ∷ d ∷ []) (ascending_of place_cmp (a ∷ b ∷ c ∷ d ∷ []))
+sorted a b c d solid = ascending_of-permutes (a ∷ b ∷ c ∷ d ∷ []) (distinct_corners a b c d solid)
+
+holds_edge : (a b c d : Coordinates) (corners : List Coordinates) → IsPermutation (a ∷ b ∷ c ∷ d ∷ []) corners → holds_all corners (a ∷ b ∷ []) ≡ true
+holds_edge a b c d corners moved =
+    rw (sym (has-permutation a (a ∷ b ∷ c ∷ d ∷ []) corners moved), sym (has-permutation b (a ∷ b ∷ c ∷ d ∷ []) corners moved))
+    (held (eq_by_cmp place_cmp a a) (has place_cmp a (b ∷ c ∷ d ∷ [])) (eq_by_cmp place_cmp b a) (eq_by_cmp place_cmp b b) (has place_cmp b (c ∷ d ∷ [])) (tied a) (tied b))
+  where
+    held : (s t u v w : Bool) → s ≡ true → v ≡ true → ((s || t) && ((u || (v || w)) && true)) ≡ true
+    held s t true v w e f = rw e refl
+    held s t false v w e f = rw (e, f) refl
+
+pub bisect_count : (m a b c d : Coordinates) (p : Rational) → IsMiddle m a b → vol6 a b c d ≢ pos 0 → IsOffTriangle m c d p
+    → count_by (is_inside p) (bisect a b m (ascending_of place_cmp (a ∷ b ∷ c ∷ d ∷ []))) ≡ count_by (is_inside p) (ascending_of place_cmp (a ∷ b ∷ c ∷ d ∷ []) ∷ [])
+bisect_count m a b c d p middle solid off =
+    let corners = ascending_of place_cmp (a ∷ b ∷ c ∷ d ∷ []) in
+    let moved = sorted a b c d solid in
+    ap (count_by (is_inside p)) (bisect-with a b m corners (holds_edge a b c d corners moved)) ∙ replaced_count m a b c d corners p moved middle solid off
+
+-- ---- with regions
+-- the test of a tetrahedron by its region and a point
+abbrev passes : (ℤ → ℤ → Bool) → Rational → Tetrahedron → Bool
+passes g p tet = g tet.phys tet.elem && is_inside p tet.corners
+
+abbrev with_corners : Tetrahedron → List Coordinates → Tetrahedron
+with_corners tet corners = record tet { corners = corners }
+
+two_count : (b x y z : Bool) → (0 + cond x 1 0) + cond y 1 0 ≡ 0 + cond z 1 0 → (0 + cond (b && x) 1 0) + cond (b && y) 1 0 ≡ 0 + cond (b && z) 1 0
+two_count true x y z h = h
+two_count false x y z h = refl
+
+module _ (g : ℤ → ℤ → Bool) (p : Rational) where
+  two_passes : (tet : Tetrahedron) (xs ys : List Coordinates) → count_by (is_inside p) (xs ∷ ys ∷ []) ≡ count_by (is_inside p) (tet.corners ∷ [])
+      → count_by (passes g p) (with_corners tet xs ∷ with_corners tet ys ∷ []) ≡ count_by (passes g p) (tet ∷ [])
+  two_passes tet xs ys h = two_count (g tet.phys tet.elem) (is_inside p xs) (is_inside p ys) (is_inside p tet.corners) h
+
+  pub edge_passes : (m a b c d : Coordinates) (tet : Tetrahedron) → IsMiddle m a b → vol6 a b c d ≢ pos 0 → tet.corners ≡ ascending_of place_cmp (a ∷ b ∷ c ∷ d ∷ []) → IsOffTriangle m c d p
+      → count_by (passes g p) (bisect_tet a b m tet) ≡ count_by (passes g p) (tet ∷ [])
+  edge_passes m a b c d tet middle solid is off =
+      let moved : IsPermutation (a ∷ b ∷ c ∷ d ∷ []) tet.corners = subst (IsPermutation (a ∷ b ∷ c ∷ d ∷ [])) (sym is) (sorted a b c d solid) in
+      ap (λ xss. count_by (passes g p) (map (with_corners tet) xss)) (bisect-with a b m tet.corners (holds_edge a b c d tet.corners moved))
+      ∙ two_passes tet (replaced a m tet.corners) (replaced b m tet.corners) (replaced_count m a b c d tet.corners p moved middle solid off)
+
+  module _ (m a b : Coordinates) (middle : IsMiddle m a b) (differ : a ≢ b) where
+    tet_passes : (tet : Tetrahedron) → are_corners tet.corners ≡ true → IsOffFaces p (bisect_tet a b m tet)
+        → count_by (passes g p) (bisect_tet a b m tet) ≡ count_by (passes g p) (tet ∷ [])
+    tet_passes tet are off =
+        elim (holds_all tet.corners (a ∷ b ∷ [])) as (λ h. holds_all tet.corners (a ∷ b ∷ []) ≡ h
+        → IsOffFaces p (map (with_corners tet) (cond h (replaced a m tet.corners ∷ replaced b m tet.corners ∷ []) (tet.corners ∷ [])))
+        → count_by (passes g p) (map (with_corners tet) (cond h (replaced a m tet.corners ∷ replaced b m tet.corners ∷ []) (tet.corners ∷ []))) ≡ count_by (passes g p) (tet ∷ [])) [
+          | true ↦ λ there off.
+              let edge = has_edge a b tet.corners differ are there in
+              two_passes tet (replaced a m tet.corners) (replaced b m tet.corners)
+              (replaced_count m a b edge.c edge.d tet.corners p edge.order middle edge.solid
+              (off_first p m b edge.c edge.d (replaced a m tet.corners) (replaced_first m a b edge.c edge.d tet.corners edge.order middle edge.solid) off.0))
+          | false ↦ λ _ _. refl
+        ] refl off
+
+    pub list_passes : (tets : List Tetrahedron) → list_all (λ tet. are_corners tet.corners) tets ≡ true → IsOffFaces p (flat_map (bisect_tet a b m) tets)
+        → count_by (passes g p) (flat_map (bisect_tet a b m) tets) ≡ count_by (passes g p) tets
+    list_passes [] are off = refl
+    list_passes (tet ∷ tets) are off =
+        let parts = first_and_rest (are_corners tet.corners) (list_all (λ tet. are_corners tet.corners) tets) are in
+        let first = tet_passes tet parts.0 (all_left p (bisect_tet a b m tet) (flat_map (bisect_tet a b m) tets) off) in
+        let rest = list_passes tets parts.1 (all_right p (bisect_tet a b m tet) (flat_map (bisect_tet a b m) tets) off) in
+        sum_by-append (λ t. cond (passes g p t) 1 0) (bisect_tet a b m tet) (flat_map (bisect_tet a b m) tets)
+        ∙ ap₂ (λ (k n : ℕ). k + n) first rest
+        ∙ sym (sum_by-append (λ t. cond (passes g p t) 1 0) (tet ∷ []) tets)
+
+-- ---- as the laws say it
+pub bisection_keeps_cover_of_one : (phys elem : ℤ) (p : Rational) (m a b c d : Coordinates) (tet : Tetrahedron) → IsMiddle m a b → vol6 a b c d ≢ pos 0
+    → tet.corners ≡ ascending_of place_cmp (a ∷ b ∷ c ∷ d ∷ []) → IsOffTriangle m c d p
+    → cover phys elem p (bisect_tet a b m tet) ≡ cover phys elem p (tet ∷ [])
+bisection_keeps_cover_of_one phys elem p = edge_passes (λ u v. int_eq u phys && int_eq v elem) p
+
+pub bisection_keeps_cover : (phys elem : ℤ) (p : Rational) (m a b : Coordinates) (tets : List Tetrahedron) → IsMiddle m a b → a ≢ b
+    → list_all (λ tet. are_corners tet.corners) tets ≡ true → IsOffFaces p (flat_map (bisect_tet a b m) tets)
+    → cover phys elem p (flat_map (bisect_tet a b m) tets) ≡ cover phys elem p tets
+bisection_keeps_cover phys elem p m a b tets middle differ =
+    list_passes (λ u v. int_eq u phys && int_eq v elem) p m a b middle differ tets
+
+pub bisection_keeps_whole_cover : (p : Rational) (m a b : Coordinates) (tets : List Tetrahedron) → IsMiddle m a b → a ≢ b
+    → list_all (λ tet. are_corners tet.corners) tets ≡ true → IsOffFaces p (flat_map (bisect_tet a b m) tets)
+    → whole_cover p (flat_map (bisect_tet a b m) tets) ≡ whole_cover p tets
+bisection_keeps_whole_cover p m a b tets middle differ = list_passes (λ _ _. true) p m a b middle differ tets

@@ -1,0 +1,6 @@
+pub mod Covers
+pub mod Exchanges
+pub mod Halves
+pub mod OffFaces
+pub mod Permutations
+pub mod Pieces

@@ -1,0 +1,5 @@
+use Rattle.ma_cover.proofs.Pieces.{pieces_are_corners}
+use Rattle.ma_cover.proofs.laws.pieces_are_tetrahedra.Goals as goal
+
+pub returns : goal.returns
+returns c = pieces_are_corners

@@ -1,0 +1,4 @@
+pub mod Inside
+pub mod OnFaces
+pub mod Cover
+pub mod Laws
