@@ -1,0 +1,14 @@
+pub mod Sets
+pub mod Masks
+pub mod Ranked
+pub mod Replaced
+pub mod Cut
+pub mod Solid
+pub mod Halved
+pub mod Counting
+pub mod Middles
+pub mod Keeping
+pub mod Shapes
+pub mod Corners
+pub mod Straight
+pub mod Tetrahedra

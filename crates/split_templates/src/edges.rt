@@ -1,0 +1,81 @@
+// Edges: which are marked, and their order.
+ghost use Rattle.std.specs.Prelude.{◌≡◌, ◌<◌, ◌≤◌, ◌^◌, length, map, filter};
+ghost use Rattle.arrayvec.specs.ArrayVec.{array_vec_len};
+ghost use Rattle.ma_cells.specs.Ascending.{ascending_of};
+ghost use Rattle.ma_cells.specs.Faces.{edges_of};
+ghost use Rattle.split_templates.specs.Edges.{chosen, edge_cmp, is_long_edge, mask_of};
+ghost use Rattle.split_templates.specs.Ranks.{ranked};
+
+use crate::put::put;
+use arrayvec::ArrayVec;
+use ma_cells::Tet;
+use ma_geom::{Place, len2};
+use size_marks::SizeField;
+
+/// A set of edges of a cell: bit i stands for edge i, in the order 01, 02, 03, 12, 13, 23.
+pub type EdgeMask = u8;
+
+/// An edge by its ends. The longer edge is the lesser one, and of two of one length the one with
+/// the lesser ends.
+#[derive(Clone, Copy, Default, PartialEq, Eq, PartialOrd, Ord)]
+pub(crate) struct Edge {
+    // the squared length, negative
+    rank: i128,
+    pub(crate) ends: [Place; 2],
+}
+
+impl Edge {
+    fn new(ends: [Place; 2]) -> Edge
+        ensures { result ≡ ranked ends }
+    {
+        Edge {
+            rank: -len2(ends[0], ends[1]),
+            ends,
+        }
+    }
+}
+
+/// The marked ones of these edges, the longest first.
+pub(crate) fn in_order(edges: &[[Place; 2]], mask: u8) -> ArrayVec<Edge, 6>
+    requires { length edges.now ≤ 6 }
+    ensures value { result.items ≡ map ranked (ascending_of edge_cmp (chosen mask edges.now)) }
+    ensures bound { array_vec_len result ≤ length edges.now }
+{
+    match edges {
+        [] => ArrayVec::new(),
+        [first, rest @ ..] => {
+            let mut sorted = in_order(rest, mask / 2);
+            if mask % 2 == 1 {
+                put(&mut sorted, Edge::new(*first));
+            }
+            sorted
+        }
+    }
+}
+
+fn is_long(ends: [Place; 2], field: &SizeField) -> bool
+    ensures { result ≡ is_long_edge field.now ends }
+{
+    field.is_long(ends[0], ends[1])
+}
+
+/// The long ones of these edges.
+fn long_ones(edges: &[[Place; 2]], field: &SizeField) -> EdgeMask
+    requires { length edges.now ≤ 6 }
+    ensures value { result ≡ mask_of (is_long_edge field.now) edges.now }
+    ensures bound { result < 2 ^ length edges.now }
+{
+    match edges {
+        [] => 0,
+        [first, rest @ ..] => u8::from(is_long(*first, field)) + 2 * long_ones(rest, field),
+    }
+}
+
+/// The long edges of a tetrahedron. Takes no memory.
+pub fn marked(t: &Tet, field: &SizeField) -> EdgeMask
+    ensures value { result ≡ mask_of (is_long_edge field.now) (edges_of t.now.corners) }
+    ensures bound { result < 64 }
+    ensures long { chosen result (edges_of t.now.corners) ≡ filter (is_long_edge field.now) (edges_of t.now.corners) }
+{
+    long_ones(&t.edges(), field)
+}
