@@ -1,7 +1,6 @@
 -- What holds of a cell, and of each half of a cell of which it holds, holds of all pieces.
-use Rattle.std.proofs.Common.{◌≡◌, ℕ, true, false, ◌&&◌, List, [], ◌∷◌, length, eqb, inl, inr, refl, sym, ap, subst, ◌∙◌, arith}
+use Rattle.std.proofs.Common.{◌≡◌, ℕ, true, false, ◌&&◌, List, [], ◌∷◌, length, eqb, inl, inr, refl, sym, ap, subst, ◌∙◌}
 use Rattle.std.specs.List.{AllByRecursion, list_all}
-use Rattle.std.proofs.lemmas.Bool.Decides.{nat_tests}
 use Rattle.ma_geom.specs.Coordinates.{Coordinates, place_cmp}
 use Rattle.ma_geom.specs.Rational.{IsMiddle}
 use Rattle.ma_geom.proofs.Identities.{IsMiddle-exchange}
@@ -14,9 +13,7 @@ use Rattle.split_templates.proofs.Counting.{IsFresh, IsSplit, split_or_whole}
 use Rattle.split_templates.proofs.Cut.{pieces_of_halves, pieces_of_whole}
 use Rattle.split_templates.proofs.Halved.{same, same_turned}
 use Rattle.split_templates.proofs.Middles.{midpoint-IsMiddle}
-
-all_there : (m n : ℕ) → m ≡ n → eqb m n ≡ true
-all_there m n e = grind (arith, nat_tests)
+use Rattle.split_templates.proofs.Replaced.{all_there}
 
 -- a property of cells with so many corners that halves inherit
 pub record IsInherited (S : List Coordinates → Type 0) (size : ℕ) : Type 0 where

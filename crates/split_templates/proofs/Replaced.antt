@@ -9,7 +9,7 @@ use Rattle.ma_cells.specs.Ascending.{are_distinct, ascending_of}
 use Rattle.ma_cells.proofs.Ascents.{ascending_from_distinct, length-ascending_of}
 use Rattle.ma_cells.proofs.Corners.{ascending_is, sorted_corners}
 
-all_there : (m n : ℕ) → m ≡ n → eqb m n ≡ true
+pub all_there : (m n : ℕ) → m ≡ n → eqb m n ≡ true
 all_there m n e = grind (arith, nat_tests)
 
 -- places of which none is left out as a repeat are what they sort to
