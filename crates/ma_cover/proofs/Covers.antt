@@ -1,11 +1,10 @@
 -- Bisection keeps cover, of one tetrahedron and of a list.
-use Rattle.std.proofs.Common.{◌≡◌, ◌≢◌, ℕ, ◌+◌, Bool, true, false, cond, ◌&&◌, ◌||◌, List, [], ◌∷◌, ◌++◌, refl, sym, ap, ap₂, subst, ◌∙◌, arith}
+use Rattle.std.proofs.Common.{◌≡◌, ◌≢◌, ℕ, ◌+◌, Bool, true, false, cond, ◌&&◌, ◌||◌, List, [], ◌∷◌, ◌++◌, refl, sym, ap, ap₂, subst, ◌∙◌}
 use Rattle.std.specs.Prelude.{ℤ, pos, map}
-use Rattle.std.specs.List.{count_by, flat_map, list_all}
+use Rattle.std.specs.List.{AllByRecursion, count_by, flat_map, list_all}
 use Rattle.std.specs.List.Sorted.{IsPermutation}
 use Rattle.std.specs.Ordering.{eq_by_cmp, int_eq}
 use Rattle.std.proofs.lemmas.Bool.{false≢true}
-use Rattle.std.proofs.lemmas.List.Sorted.{IsPermutation-sym, length_permutation}
 use Rattle.std.proofs.lemmas.List.Sums.{sum_by-append}
 use Rattle.ma_geom.specs.Coordinates.{Coordinates, place_cmp}
 use Rattle.ma_geom.specs.Rational.{Rational, IsMiddle}
@@ -18,41 +17,14 @@ use Rattle.ma_cells.proofs.Bisections.{bisect-with}
 use Rattle.ma_cover.specs.Cover.{cover, whole_cover}
 use Rattle.ma_cover.specs.Inside.{is_inside}
 use Rattle.ma_cover.specs.OnFaces.{IsOffFaces, IsOffFacesOf, IsOffTriangle}
-use Rattle.ma_cover.proofs.Exchanges.{in_any_order, inside_in_any_order}
-use Rattle.ma_cover.proofs.Halves.{halves_keep_cover, on_turned, on_exchanged}
+use Rattle.ma_cover.proofs.Exchanges.{inside_in_any_order}
+use Rattle.ma_cover.proofs.Halves.{halves_keep_cover}
 use Rattle.ma_cover.proofs.Permutations.{ascending_of-permutes, has-permutation, tied}
 use Rattle.ma_cover.proofs.Pieces.{distinct_corners, has_edge, replaced_first, replaced_second}
+use Rattle.ma_cover.proofs.WholeFaces.{off_between}
 
--- ---- off the faces, in any order of the corners
-off_exchanged : (a b c : Coordinates) (p : Rational) → IsOffTriangle a b c p → IsOffTriangle b a c p
-off_exchanged a b c p off on = off (on_exchanged a b c p on)
-
-off_turned : (a b c : Coordinates) (p : Rational) → IsOffTriangle a b c p → IsOffTriangle a c b p
-off_turned a b c p off on = off (on_turned a b c p on)
-
+-- ---- off the faces of each in a list
 module _ (p : Rational) where
-  abbrev OffAll : Coordinates → Coordinates → Coordinates → Coordinates → Type 0
-  OffAll a b c d = IsOffFacesOf p (a ∷ b ∷ c ∷ d ∷ [])
-
-  off_ab : (a b c d : Coordinates) → OffAll a b c d → OffAll b a c d
-  off_ab a b c d h = (off_exchanged a b c p h.0, (off_exchanged a b d p h.1.0, (h.1.1.1.0, (h.1.1.0, tt))))
-
-  off_bc : (a b c d : Coordinates) → OffAll a b c d → OffAll a c b d
-  off_bc a b c d h = (off_turned a b c p h.0, (h.1.1.0, (h.1.0, (off_exchanged b c d p h.1.1.1.0, tt))))
-
-  off_cd : (a b c d : Coordinates) → OffAll a b c d → OffAll a b d c
-  off_cd a b c d h = (h.1.0, (h.0, (off_turned a c d p h.1.1.0, (off_turned b c d p h.1.1.1.0, tt))))
-
-  -- the faces at the corner that is listed first, so far as its triangle with the last two
-  off_first : (a b c d : Coordinates) (others : List Coordinates) → IsPermutation (a ∷ b ∷ c ∷ d ∷ []) others → IsOffFacesOf p others → IsOffTriangle a c d p
-  off_first a b c d (w ∷ x ∷ y ∷ z ∷ []) moved off =
-      (in_any_order OffAll off_ab off_bc off_cd w x y z (a ∷ b ∷ c ∷ d ∷ []) (IsPermutation-sym (a ∷ b ∷ c ∷ d ∷ []) (w ∷ x ∷ y ∷ z ∷ []) moved) off).1.1.0
-  off_first a b c d [] moved off = let long = length_permutation (a ∷ b ∷ c ∷ d ∷ []) [] moved in absurd (omega arith)
-  off_first a b c d (w ∷ []) moved off = let long = length_permutation (a ∷ b ∷ c ∷ d ∷ []) (w ∷ []) moved in absurd (omega arith)
-  off_first a b c d (w ∷ x ∷ []) moved off = let long = length_permutation (a ∷ b ∷ c ∷ d ∷ []) (w ∷ x ∷ []) moved in absurd (omega arith)
-  off_first a b c d (w ∷ x ∷ y ∷ []) moved off = let long = length_permutation (a ∷ b ∷ c ∷ d ∷ []) (w ∷ x ∷ y ∷ []) moved in absurd (omega arith)
-  off_first a b c d (w ∷ x ∷ y ∷ z ∷ t ∷ l) moved off = let long = length_permutation (a ∷ b ∷ c ∷ d ∷ []) (w ∷ x ∷ y ∷ z ∷ t ∷ l) moved in absurd (omega arith)
-
   all_left : (xs ys : List Tetrahedron) → IsOffFaces p (xs ++ ys) → IsOffFaces p xs
   all_left [] ys h = tt
   all_left (x ∷ xs) ys h = (h.0, all_left xs ys h.1)
@@ -99,6 +71,19 @@ bisect_count m a b c d p middle solid off =
     let moved = sorted a b c d solid in
     ap (count_by (is_inside p)) (bisect-with a b m corners (holds_edge a b c d corners moved)) ∙ replaced_count m a b c d corners p moved middle solid off
 
+pub bisect_inside : (p : Rational) (m a b : Coordinates) (corners : List Coordinates) → IsMiddle m a b → a ≢ b → are_corners corners ≡ true
+    → AllByRecursion (IsOffFacesOf p) (bisect a b m corners) → count_by (is_inside p) (bisect a b m corners) ≡ count_by (is_inside p) (corners ∷ [])
+bisect_inside p m a b corners middle differ are off =
+    elim (holds_all corners (a ∷ b ∷ [])) as (λ h. holds_all corners (a ∷ b ∷ []) ≡ h
+    → AllByRecursion (IsOffFacesOf p) (cond h (replaced a m corners ∷ replaced b m corners ∷ []) (corners ∷ []))
+    → count_by (is_inside p) (cond h (replaced a m corners ∷ replaced b m corners ∷ []) (corners ∷ [])) ≡ count_by (is_inside p) (corners ∷ [])) [
+      | true ↦ λ there off.
+          let edge = has_edge a b corners differ are there in
+          replaced_count m a b edge.c edge.d corners p edge.order middle edge.solid
+          (off_between p m b edge.c edge.d (replaced a m corners) (replaced_first m a b edge.c edge.d corners edge.order middle edge.solid) off.0)
+      | false ↦ λ _ _. refl
+    ] refl off
+
 -- ---- with regions
 -- the test of a tetrahedron by its region and a point
 abbrev passes : (ℤ → ℤ → Bool) → Rational → Tetrahedron → Bool
@@ -134,7 +119,7 @@ module _ (g : ℤ → ℤ → Bool) (p : Rational) where
               let edge = has_edge a b tet.corners differ are there in
               two_passes tet (replaced a m tet.corners) (replaced b m tet.corners)
               (replaced_count m a b edge.c edge.d tet.corners p edge.order middle edge.solid
-              (off_first p m b edge.c edge.d (replaced a m tet.corners) (replaced_first m a b edge.c edge.d tet.corners edge.order middle edge.solid) off.0))
+              (off_between p m b edge.c edge.d (replaced a m tet.corners) (replaced_first m a b edge.c edge.d tet.corners edge.order middle edge.solid) off.0))
           | false ↦ λ _ _. refl
         ] refl off
 

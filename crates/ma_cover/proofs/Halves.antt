@@ -180,7 +180,7 @@ on_turned a b c p on = record {
     last_two : (r s t : ℤ) → (r +ℤ s) +ℤ t ≡ (r +ℤ t) +ℤ s
     last_two r s t = omega (arith, ints)
 
-pub on_exchanged : (a b c : Coordinates) (p : Rational) → IsOnTriangle b a c p → IsOnTriangle a b c p
+unfoldable pub on_exchanged : (a b c : Coordinates) (p : Rational) → IsOnTriangle b a c p → IsOnTriangle a b c p
 on_exchanged a b c p on = record {
   i = on.j;
   j = on.i;

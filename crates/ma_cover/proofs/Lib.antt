@@ -4,3 +4,4 @@ pub mod Halves
 pub mod OffFaces
 pub mod Permutations
 pub mod Pieces
+pub mod WholeFaces

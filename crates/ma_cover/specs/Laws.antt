@@ -1,6 +1,6 @@
 -- What holds of all points and tetrahedra. Corners are places without bound.
 use Rattle.std.specs.Prelude.{ℤ, pos, ◌≡◌, ◌≢◌, true, List, [], ◌∷◌, IsPermutation}
-use Rattle.std.specs.List.{count_by, flat_map, list_all}
+use Rattle.std.specs.List.{AllByRecursion, count_by, flat_map, list_all}
 use Rattle.ma_geom.specs.Coordinates.{Coordinates, place_cmp}
 use Rattle.ma_geom.specs.Rational.{Rational, IsMiddle}
 use Rattle.ma_geom.specs.Volume.{vol6}
@@ -55,3 +55,13 @@ abbrev pub BisectionKeepsWholeCover : Type 0
 BisectionKeepsWholeCover = (p : Rational) (m a b : Coordinates) (tets : List Tetrahedron) → IsMiddle m a b → a ≢ b
     → list_all (λ tet. are_corners tet.corners) tets ≡ true → IsOffFaces p (flat_map (bisect_tet a b m) tets)
     → whole_cover p (flat_map (bisect_tet a b m) tets) ≡ whole_cover p tets
+
+-- what is off the closed faces of the pieces of a tetrahedron is off its own
+abbrev pub OffPiecesIsOffWhole : Type 0
+OffPiecesIsOffWhole = (p : Rational) (m a b : Coordinates) (corners : List Coordinates) → IsMiddle m a b → a ≢ b → are_corners corners ≡ true
+    → AllByRecursion (IsOffFacesOf p) (bisect a b m corners) → IsOffFacesOf p corners
+
+-- the pieces that `bisect` lists have a point within them as often as the tetrahedron, off the closed faces of the pieces
+abbrev pub BisectKeepsInside : Type 0
+BisectKeepsInside = (p : Rational) (m a b : Coordinates) (corners : List Coordinates) → IsMiddle m a b → a ≢ b → are_corners corners ≡ true
+    → AllByRecursion (IsOffFacesOf p) (bisect a b m corners) → count_by (is_inside p) (bisect a b m corners) ≡ count_by (is_inside p) (corners ∷ [])

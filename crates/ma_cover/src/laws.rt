@@ -1,5 +1,5 @@
 //! Laws of inside and cover, each the contract of a function that does nothing.
-ghost use Rattle.ma_cover.specs.Laws.{BisectionKeepsCover, BisectionKeepsCoverOfOne, BisectionKeepsWholeCover, HalvesKeepCover, InsideIsOffFaces, MiddleIsNoEnd, OrderOfCornersIsFree, PiecesAreTetrahedra, PiecesKeepCover};
+ghost use Rattle.ma_cover.specs.Laws.{BisectKeepsInside, BisectionKeepsCover, BisectionKeepsCoverOfOne, BisectionKeepsWholeCover, HalvesKeepCover, InsideIsOffFaces, MiddleIsNoEnd, OffPiecesIsOffWhole, OrderOfCornersIsFree, PiecesAreTetrahedra, PiecesKeepCover};
 
 /// The order of the corners doesn't matter to what is within a tetrahedron.
 pub fn order_of_corners_is_free()
@@ -44,4 +44,14 @@ pub fn bisection_keeps_cover()
 /// It keeps the cover over all regions.
 pub fn bisection_keeps_whole_cover()
     ensures { BisectionKeepsWholeCover }
+{}
+
+/// What is off the closed faces of the pieces is off those of the whole.
+pub fn off_pieces_is_off_whole()
+    ensures { OffPiecesIsOffWhole }
+{}
+
+/// The pieces have a point within them as often as the whole, off their closed faces.
+pub fn bisect_keeps_inside()
+    ensures { BisectKeepsInside }
 {}
