@@ -79,3 +79,27 @@ pub fn marked(t: &Tet, field: &SizeField) -> EdgeMask
 {
     long_ones(&t.edges(), field)
 }
+
+/// The pairs of these places, each in their order.
+pub(crate) fn sides(corners: [Place; 3]) -> [[Place; 2]; 3]
+    ensures { result ≡ edges_of corners }
+{
+    let [a, b, c] = corners;
+    [[a, b], [a, c], [b, c]]
+}
+
+/// The long edges of a triangle: bits 0, 1 and 2 stand for the edges 01, 02 and 12. Takes no memory.
+pub fn marked_tri(t: [Place; 3], field: &SizeField) -> EdgeMask
+    ensures bound { result < 8 }
+    ensures long { chosen result (edges_of t) ≡ filter (is_long_edge field.now) (edges_of t) }
+{
+    long_ones(&sides(t), field)
+}
+
+/// Bit 0 if the segment is long. Takes no memory.
+pub fn marked_seg(s: [Place; 2], field: &SizeField) -> EdgeMask
+    ensures bound { result < 2 }
+    ensures long { chosen result (edges_of s) ≡ filter (is_long_edge field.now) (edges_of s) }
+{
+    long_ones(&[s], field)
+}

@@ -8,7 +8,7 @@ ghost use Rattle.ma_cells.specs.Tetrahedron.{are_corners};
 ghost use Rattle.split_templates.specs.Edges.{chosen};
 ghost use Rattle.split_templates.specs.Pieces.{is_straight, pieces_of, tets_of};
 
-use crate::edges::{EdgeMask, in_order};
+use crate::edges::{EdgeMask, in_order, sides};
 use crate::pieces::{cut_seg, cut_tet, cut_tri};
 use arrayvec::ArrayVec;
 use ma_cells::Tet;
@@ -24,14 +24,6 @@ pub fn split_seg(s: [Place; 2], mask: u8) -> ArrayVec<[Place; 2], 2>
     let mut pieces = ArrayVec::new();
     cut_seg(in_order(&[s], mask).as_slice(), s, &mut pieces);
     pieces
-}
-
-/// The pairs of these places, each in their order.
-fn sides(corners: [Place; 3]) -> [[Place; 2]; 3]
-    ensures { result ≡ edges_of corners }
-{
-    let [a, b, c] = corners;
-    [[a, b], [a, c], [b, c]]
 }
 
 /// The pieces of a triangle that is bisected at its marked edges, in ascending order. Bits 0, 1 and 2
