@@ -1,0 +1,9 @@
+pub mod Passing
+pub mod Rising
+pub mod Marked
+pub mod Solid
+pub mod Multiples
+pub mod Gridded
+pub mod Counts
+pub mod Keeping
+pub mod Covered

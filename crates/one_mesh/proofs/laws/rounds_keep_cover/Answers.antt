@@ -1,0 +1,5 @@
+use Rattle.one_mesh.proofs.Covered.{rounds_keep_cover}
+use Rattle.one_mesh.proofs.laws.rounds_keep_cover.Goals as goal
+
+pub returns : goal.returns
+returns c = rounds_keep_cover

@@ -1,0 +1,9 @@
+use Rattle.std.proofs.Common.{◌≡◌, true, take}
+use Rattle.one_mesh.specs.Laws.{are_tetrahedra}
+use Rattle.one_mesh.proofs.pieces.copied.Given as goal
+
+abbrev pub invariant-loop-tet : goal.invariant-loop-tet
+invariant-loop-tet l = record {
+  items : l.copies.items ≡ take l.tet-index l.tets;
+  solid : are_tetrahedra l.copies.items ≡ true;
+}

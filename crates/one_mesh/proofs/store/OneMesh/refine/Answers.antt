@@ -1,0 +1,29 @@
+use Rattle.std.proofs.Common.{◌≡◌, suc, true, ap, sym, subst}
+use Rattle.ma_cells.specs.declared.batch.Batch.{Batch}
+use Rattle.one_mesh.specs.Grid.{mesh_is_on_grid}
+use Rattle.one_mesh.specs.Holding.{Holding}
+use Rattle.one_mesh.specs.Laws.{KeepsCover, are_tetrahedra}
+use Rattle.one_mesh.proofs.Covered.{refinement_keeps_cover}
+use Rattle.one_mesh.proofs.Gridded.{refinement_halves_the_grid}
+use Rattle.one_mesh.proofs.Solid.{refinement_is_solid}
+use Rattle.one_mesh.proofs.store.OneMesh.refine.Goals as goal
+
+pub invariant_of-self : goal.invariant_of-self
+invariant_of-self c =
+    subst (λ (mesh : Batch). are_tetrahedra mesh.tets ≡ true) (sym c.in_ok-self-inside.ensures) (refinement_is_solid c.args.field.now c.self.inside.mesh c.self.invariant)
+
+pub returns-clause-cover : goal.returns-clause-cover
+returns-clause-cover c =
+    let old : c.self.inside.mesh ≡ c.args.self.now.mesh = ap (λ (h : Holding). h.mesh) c.self.view_is in
+    subst (λ (mesh : Batch). KeepsCover mesh c.in_ok-self-inside.field-0) old
+    (subst (λ (mesh : Batch). KeepsCover c.self.inside.mesh mesh) (sym c.in_ok-self-inside.ensures) (refinement_keeps_cover c.args.field.now c.self.inside.mesh c.self.invariant))
+
+pub returns-clause-solid : goal.returns-clause-solid
+returns-clause-solid c =
+    subst (λ (mesh : Batch). are_tetrahedra mesh.tets ≡ true) (sym c.in_ok-self-inside.ensures) (refinement_is_solid c.args.field.now c.self.inside.mesh c.self.invariant)
+
+pub returns-clause-grid : goal.returns-clause-grid
+returns-clause-grid c k on =
+    let old : c.self.inside.mesh ≡ c.args.self.now.mesh = ap (λ (h : Holding). h.mesh) c.self.view_is in
+    subst (λ (mesh : Batch). mesh_is_on_grid k mesh ≡ true) (sym c.in_ok-self-inside.ensures)
+    (refinement_halves_the_grid k c.args.field.now c.self.inside.mesh (subst (λ (mesh : Batch). mesh_is_on_grid (suc k) mesh ≡ true) (sym old) on))

@@ -1,0 +1,6 @@
+pub mod Refinement
+pub mod Adaptation
+pub mod Grid
+pub mod Laws
+pub mod Holding
+pub mod Rounds

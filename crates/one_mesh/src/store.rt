@@ -1,0 +1,130 @@
+// A mesh in one piece.
+ghost use Rattle.std.specs.Prelude.{ℕ, suc, ◌≡◌, false, true, IfOk, OnOk, OnErr};
+ghost use Rattle.ma_cells.specs.Ascending.{ascending_of};
+ghost use Rattle.one_mesh.specs.Grid.{mesh_is_on_grid};
+ghost use Rattle.one_mesh.specs.Holding.{set_of};
+ghost use Rattle.one_mesh.specs.Laws.{KeepsCover, are_tetrahedra};
+ghost use Rattle.one_mesh.specs.Refinement.{refine};
+ghost use Rattle.one_mesh.specs.Rounds.{EndsRound};
+
+use crate::fault::OneFault;
+use crate::pieces::{copied, mark_pieces, tet_pieces};
+use ma_cells::{Ascending, Batch, Mesh};
+use ma_geom::Memory;
+use size_marks::SizeField;
+use std::alloc::Global;
+use std::marker::Model;
+
+/// How many tetrahedra a mesh may have after a stage.
+const MOST_TETS: usize = 1_000_000;
+
+/// A mesh that is adapted round by round. A round that is refused leaves it spent.
+#[derive(Debug, Drop)]
+pub struct OneMesh {
+    mesh: Batch,
+    spent: bool,
+}
+
+impl Model for OneMesh {
+    ghost use Rattle.std.specs.Prelude.{◌≡◌, true};
+    ghost use Rattle.one_mesh.specs.Holding.{Holding};
+    ghost use Rattle.one_mesh.specs.Laws.{are_tetrahedra};
+
+    ghost Value = { Holding };
+
+    ghost view = { λ m. record { mesh = m.mesh; spent = m.spent } };
+
+    ghost invariant = { λ m. are_tetrahedra m.mesh.tets ≡ true };
+}
+
+/// The mesh of all pieces.
+fn refined(alloc: Global, mesh: &Batch, field: &SizeField) -> Result<Batch, Memory>
+    ensures { IfOk result (λ pieces. pieces ≡ refine field.now mesh.now) }
+{
+    let tets = tet_pieces(alloc, mesh.tets.as_slice(), field)?;
+    let marks = mark_pieces(alloc, mesh.marks.as_slice(), field)?;
+    Batch::gather(tets, marks)
+}
+
+impl OneMesh {
+    /// The tetrahedra and marks of a mesh as sets.
+    pub fn from_mesh(alloc: Global, mesh: &Mesh) -> Result<OneMesh, Memory>
+        ensures { IfOk result (λ one. one ≡ record { mesh = set_of mesh.now; spent = false }) }
+    {
+        let tets = copied(alloc, mesh.tets())?;
+        let marks = Vec::from_slice(alloc, mesh.marks())?;
+        Ok(OneMesh {
+            mesh: Batch {
+                tets: Ascending::gather(tets),
+                marks: Ascending::from_vec(marks),
+            },
+            spent: false,
+        })
+    }
+
+    /// The mesh as it stands. Takes no memory.
+    pub fn batch(&self) -> &Batch
+        ensures value { result.now ≡ self.now.mesh }
+        ensures solid { are_tetrahedra result.now.tets ≡ true }
+    {
+        &self.mesh
+    }
+
+    /// Whether a round was refused. Takes no memory.
+    pub fn is_spent(&self) -> bool
+        ensures { result ≡ self.now.spent }
+    {
+        self.spent
+    }
+
+    /// Bisects each tetrahedron, marked triangle and marked segment at its long edges, the longest
+    /// first, in time linear in what comes of it, but for a sort.
+    pub fn refine(&mut self, alloc: Global, field: &SizeField) -> Result<(), Memory>
+        requires { self.old.spent ≡ false }
+        ensures value { OnOk result (self.new ≡ record { mesh = refine field.now self.old.mesh; spent = false }) }
+        ensures err { OnErr result (self.new ≡ self.old) }
+        ensures cover { OnOk result (KeepsCover self.old.mesh self.new.mesh) }
+        ensures solid { are_tetrahedra self.new.mesh.tets ≡ true }
+        ensures grid { OnOk result ((k : ℕ) → mesh_is_on_grid (suc k) self.old.mesh ≡ true → mesh_is_on_grid k self.new.mesh ≡ true) }
+    {
+        self.mesh = refined(alloc, &self.mesh, field)?;
+        Ok(())
+    }
+
+    /// One round, whose number is told where it is refused. A round refines the mesh; it has no
+    /// passes yet. It is refused where the mesh has more than 1,000,000 tetrahedra after it, or for
+    /// want of memory, and the mesh is spent then.
+    pub fn adapt(
+        &mut self,
+        alloc: Global,
+        field: &SizeField,
+        round: u32,
+        collapse: u32,
+        swap: u32,
+    ) -> Result<(), OneFault>
+        requires spent { self.old.spent ≡ false }
+        requires collapse { collapse ≡ 0 }
+        requires swap { swap ≡ 0 }
+        ensures { EndsRound result round (refine field.now self.old.mesh) self.new }
+    {
+        match self.refine(alloc, field) {
+            Ok(()) => {
+                let count = self.mesh.tets.len();
+                if count > MOST_TETS {
+                    self.spent = true;
+                    Err(OneFault::Over {
+                        round,
+                        stage: 0,
+                        count: count as u64,
+                    })
+                } else {
+                    Ok(())
+                }
+            }
+            Err(Memory) => {
+                self.spent = true;
+                Err(OneFault::Memory)
+            }
+        }
+    }
+}
