@@ -5,3 +5,4 @@ pub mod Printed
 pub mod Outcome
 pub mod Steps
 pub mod Codes
+pub mod Geometry

@@ -10,9 +10,10 @@ use Rattle.msh_read.specs.Reading.{read_of}
 use Rattle.msh_read.specs.Tetrahedra.{tets_of}
 use Rattle.msh_read.specs.declared.fault.MshFault.{MshFault}
 use Rattle.msh_read.specs.declared.fault.MshFault.TheVariants.{OtherForm}
+use Rattle.one_mesh.specs.Grid.{grid_of}
 use Rattle.meshadapt.specs.declared.status.FileKind.TheVariants.{MeshFile}
 use Rattle.meshadapt.specs.declared.status.Refusal.{Refusal}
-use Rattle.meshadapt.specs.declared.status.Refusal.TheVariants.{Missing, TooLong, Mesh}
+use Rattle.meshadapt.specs.declared.status.Refusal.TheVariants.{Missing, TooLong, Mesh, Rounds}
 use Rattle.meshadapt.specs.Words.{Job}
 
 -- how many bytes a file may have
@@ -41,5 +42,14 @@ abbrev pub verdict_on : Option (List ℕ) → Result Batch Refusal
 verdict_on None = Err (Missing MeshFile)
 verdict_on (Some bytes) = if nat_le (length bytes) longest then refused_mesh (mesh_of bytes) else Err (TooLong MeshFile)
 
+-- A round halves the grid, so that there are at most as many rounds as its exponent.
+abbrev pub within_grid : ℕ → Batch → Result Batch Refusal
+within_grid rounds mesh = if nat_le rounds (grid_of mesh.tets) then Ok mesh else Err (Rounds rounds (grid_of mesh.tets))
+
+-- the same of a mesh that may be refused already
+abbrev pub for_rounds : ℕ → Result Batch Refusal → Result Batch Refusal
+for_rounds rounds (Ok mesh) = within_grid rounds mesh
+for_rounds rounds (Err refusal) = Err refusal
+
 abbrev pub verdict : Files → Job → Result Batch Refusal
-verdict files job = verdict_on (get files job.mesh)
+verdict files job = for_rounds job.rounds (verdict_on (get files job.mesh))

@@ -3,12 +3,18 @@ use Rattle.std.specs.Prelude.{ℕ, ◌^◌, ◌&&◌, ◌==◌, nat_le, if◌the
 use Rattle.std.specs.Str.{bytes_eq}
 use Rattle.msh_read.specs.Number.{natural_of}
 use Rattle.msh_read.specs.Steps.{◌>>=◌}
+use Rattle.size_marks.specs.Field.{Field}
 
--- the file of the mesh, the size of edges, and the name under which files are stored
+-- the file of the mesh, the size of edges, how many rounds are run, and the name under which files are stored
 pub record Job : Type 0 where
   pub mesh : List ℕ
   pub size : ℕ
+  pub rounds : ℕ
   pub out : List ℕ
+
+-- the size of edges, which is the same everywhere
+abbrev pub field_of : Job → Field
+field_of job = record { default = job.size; boxes = [] }
 
 -- a number from low to high
 abbrev pub in_range : ℕ → ℕ → ℕ → Option ℕ
@@ -43,14 +49,14 @@ number_of name low high words = do
   n ← number_in low high value.0
   Some (n, value.1)
 
--- the words --plain --mesh M --uniform H --rounds 0 --collapse 0 --swap 0 --out X, in this order
+-- the words --plain --mesh M --uniform H --rounds N --collapse 0 --swap 0 --out X, in this order
 unfoldable pub job_of : List (List ℕ) → Option Job
 job_of words = do
   options ← after_flag (codes "--plain") words
   mesh ← value_of (codes "--mesh") options
   size ← number_of (codes "--uniform") 1 (2 ^ 30) mesh.1
-  rounds ← number_of (codes "--rounds") 0 0 size.1
+  rounds ← number_of (codes "--rounds") 0 30 size.1
   collapse ← number_of (codes "--collapse") 0 0 rounds.1
   swap ← number_of (codes "--swap") 0 0 collapse.1
   out ← value_of (codes "--out") swap.1
-  if length out.1 == 0 then Some (record { mesh = mesh.0; size = size.0; out = out.0 }) else None
+  if length out.1 == 0 then Some (record { mesh = mesh.0; size = size.0; rounds = rounds.0; out = out.0 }) else None

@@ -1,4 +1,4 @@
-// Puts the lines of a run and stores its file.
+// Puts the last line of a run and stores its file.
 ghost use Rattle.std.specs.Prelude.{◌≡◌, ◌⊎◌, ◌++◌, [], Some, IfSome};
 ghost use Rattle.std.specs.Bool.{OnTrue};
 ghost use Rattle.ma_io.specs.Count.{Rose};
@@ -20,7 +20,7 @@ pub fn put_last<S: Sink>(out: &mut S, line: &[u8]) -> bool
 }
 
 /// Stores the bytes under the name, and puts the last line: that of the fault, if the store fails.
-fn store_and_end<D: Depot, S: Sink>(
+pub fn store_and_end<D: Depot, S: Sink>(
     depot: &mut D,
     out: &mut S,
     name: &str,
@@ -45,25 +45,5 @@ fn store_and_end<D: Depot, S: Sink>(
             }
         }
         Err(StoreFault::Memory) => Status::Memory,
-    }
-}
-
-/// Puts a line, stores the bytes under the name, and puts the last line.
-pub fn carry_out<D: Depot, S: Sink>(
-    depot: &mut D,
-    out: &mut S,
-    line: &[u8],
-    name: &str,
-    text: &[u8],
-    fault_line: &[u8],
-) -> Status
-    ensures { Carries result line.now name.now text.now fault_line.now
-        (record { files = D.files depot.old; fetch_faults = D.fetch_faults depot.old; store_faults = D.store_faults depot.old; denied = D.denied depot.old; written = S.written out.old; faults = S.faults out.old })
-        (record { files = D.files depot.new; fetch_faults = D.fetch_faults depot.new; store_faults = D.store_faults depot.new; denied = D.denied depot.new; written = S.written out.new; faults = S.faults out.new }) }
-{
-    match out.put(line) {
-        Ok(()) => store_and_end(depot, out, name, text, fault_line),
-        Err(SinkFault::Failed) => Status::WriteFault,
-        Err(SinkFault::Memory) => Status::Memory,
     }
 }

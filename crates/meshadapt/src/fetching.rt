@@ -1,15 +1,20 @@
 // Fetches the mesh of a job.
-ghost use Rattle.std.specs.Prelude.{◌≡◌, None};
+ghost use Rattle.std.specs.Prelude.{◌≡◌, [], IfOk, None, false, true};
+ghost use Rattle.ma_cells.specs.Ascending.{ascending_of};
+ghost use Rattle.ma_cells.specs.Meshes.{are_listed_once};
+ghost use Rattle.ma_cells.specs.Tetrahedron.{tet_cmp};
 ghost use Rattle.msh_read.specs.Raw.{raw};
-ghost use Rattle.msh_read.specs.Tetrahedra.{tets_of};
+ghost use Rattle.msh_read.specs.Tetrahedra.{IsSound, tets_of};
 ghost use Rattle.meshadapt.specs.Steps.{Fetches, Reads};
 ghost use Rattle.meshadapt.specs.Verdict.{mesh_of, mesh_with};
 
+use crate::measures::grid;
 use crate::status::{FileKind, Refusal};
-use ma_cells::Batch;
+use ma_cells::{Ascending, Mesh, Tet};
 use ma_geom::Memory;
 use ma_io::{Depot, FetchFault};
 use msh_read::{MshFault, RawMesh, read_msh};
+use one_mesh::OneMesh;
 use std::alloc::Global;
 
 /// How many bytes a file may have.
@@ -23,12 +28,22 @@ pub enum Unread {
     Memory,
 }
 
+/// The mesh with these tetrahedra, which has no marks yet.
+fn mesh_with(alloc: Global, tets: Vec<Tet>) -> Result<OneMesh, Memory>
+    requires { are_listed_once tets.items ≡ true }
+    ensures { IfOk result (λ held. held ≡ record { mesh = record { tets = ascending_of tet_cmp tets.items; marks = [] }; spent = false }) }
+{
+    OneMesh::from_mesh(alloc, &Mesh::new(tets, Ascending::new(alloc), 0))
+}
+
 /// The mesh of a raw mesh.
-fn mesh_of_raw(alloc: Global, mesh: &RawMesh) -> Result<Batch, MshFault>
-    ensures { Reads (λ mesh. mesh) result (mesh_with (tets_of (raw mesh.now))) }
+fn mesh_of_raw(alloc: Global, mesh: &RawMesh) -> Result<OneMesh, MshFault>
+    requires { IsSound (raw mesh.now) }
+    ensures read { Reads (λ held. held.mesh) result (mesh_with (tets_of (raw mesh.now))) }
+    ensures spent { IfOk result (λ held. held.spent ≡ false) }
 {
     match mesh.tetrahedra(alloc) {
-        Ok(Some(tets)) => match Batch::gather(tets, Vec::new(alloc)) {
+        Ok(Some(tets)) => match mesh_with(alloc, tets) {
             Ok(mesh) => Ok(mesh),
             Err(Memory) => Err(MshFault::Memory),
         },
@@ -39,8 +54,9 @@ fn mesh_of_raw(alloc: Global, mesh: &RawMesh) -> Result<Batch, MshFault>
 
 /// The mesh that the bytes of a file are.
 #[tactic(auto, unfolding(crate::specs::Verdict::mesh_of))]
-fn mesh_of(alloc: Global, bytes: &[u8]) -> Result<Batch, MshFault>
-    ensures { Reads (λ mesh. mesh) result (mesh_of bytes.now) }
+fn mesh_of(alloc: Global, bytes: &[u8]) -> Result<OneMesh, MshFault>
+    ensures read { Reads (λ held. held.mesh) result (mesh_of bytes.now) }
+    ensures spent { IfOk result (λ held. held.spent ≡ false) }
 {
     match read_msh(alloc, bytes) {
         Ok(raw) => mesh_of_raw(alloc, &raw),
@@ -50,18 +66,30 @@ fn mesh_of(alloc: Global, bytes: &[u8]) -> Result<Batch, MshFault>
     }
 }
 
-/// The mesh in the file of this name.
-pub fn fetch_mesh<D: Depot>(alloc: Global, depot: &mut D, name: &str) -> Result<Batch, Unread>
+/// The mesh in the file of this name, unless more rounds are asked for than its grid can be halved.
+pub fn fetch_mesh<D: Depot>(
+    alloc: Global,
+    depot: &mut D,
+    name: &str,
+    rounds: u32,
+) -> Result<OneMesh, Unread>
     ensures files { D.files depot.new ≡ D.files depot.old }
     ensures store_faults { D.store_faults depot.new ≡ D.store_faults depot.old }
-    ensures fetches { Fetches result name.now
+    ensures fetches { Fetches result name.now rounds
         (record { files = D.files depot.old; fetch_faults = D.fetch_faults depot.old; store_faults = 0; denied = D.denied depot.old; written = None; faults = 0 })
         (record { files = D.files depot.new; fetch_faults = D.fetch_faults depot.new; store_faults = 0; denied = D.denied depot.new; written = None; faults = 0 }) }
 {
     let mut bytes = Vec::new(alloc);
     match depot.fetch(name, &mut bytes, LONGEST) {
         Ok(()) => match mesh_of(alloc, bytes.as_slice()) {
-            Ok(mesh) => Ok(mesh),
+            Ok(mesh) => {
+                let grid = grid(mesh.batch().tets.as_slice());
+                if rounds <= grid {
+                    Ok(mesh)
+                } else {
+                    Err(Unread::Refused(Refusal::Rounds { rounds, grid }))
+                }
+            }
             Err(MshFault::At { line, kind }) => Err(Unread::Refused(Refusal::Mesh(MshFault::At {
                 line,
                 kind,

@@ -1,9 +1,13 @@
-//! Adapts a tetrahedral mesh: reads a mesh file, and writes the mesh in canonical order.
+//! Adapts a tetrahedral mesh: reads a mesh file, refines the mesh in rounds to the wanted size of
+//! edges, and writes it in canonical order.
 #![tactic(auto)]
 
+mod adapting;
 mod carrying;
 mod fetching;
 mod lines;
+mod measures;
+mod rounds;
 mod status;
 #[cfg(test)]
 mod tests;

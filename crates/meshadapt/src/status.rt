@@ -19,6 +19,9 @@ pub enum Refusal {
     TooLong(FileKind),
     /// The file of the mesh has a fault.
     Mesh(MshFault),
+    /// All coordinates of the mesh are multiples of 2^grid, and of no greater power up to 2^30, and
+    /// more rounds than `grid` are asked for.
+    Rounds { rounds: u32, grid: u32 },
 }
 
 /// How a run ends.
@@ -32,6 +35,8 @@ pub enum Status {
     /// A store failed, or a line couldn't be put.
     WriteFault,
     Refused(Refusal),
+    /// After this stage of this round the mesh has `count` tetrahedra, which is more than 1,000,000.
+    TooMany { round: u32, stage: u32, count: u64 },
     Memory,
 }
 
@@ -46,6 +51,7 @@ impl Status {
             Status::ReadFault => 2,
             Status::WriteFault => 3,
             Status::Refused(_) => 4,
+            Status::TooMany { .. } => 5,
             Status::Memory => 6,
         }
     }

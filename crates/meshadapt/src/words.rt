@@ -1,6 +1,7 @@
 // The command line.
-ghost use Rattle.std.specs.Prelude.{◌≡◌, ◌≤◌, ◌^◌, map, string_bytes};
+ghost use Rattle.std.specs.Prelude.{◌≡◌, ◌≤◌, ◌^◌, IfSome, map, string_bytes, true};
 ghost use Rattle.std.specs.Option.{option_map};
+ghost use Rattle.size_marks.specs.Field.{is_size};
 ghost use Rattle.meshadapt.specs.Words.{after_flag, in_range, job_of, number_in, number_of, value_of};
 
 use msh_read::natural;
@@ -10,15 +11,18 @@ use msh_read::natural;
 pub struct Job<'a> {
     /// The file of the mesh.
     pub mesh: &'a str,
-    /// The size of edges.
+    /// The size of edges, from 1 to 2^30.
     pub size: u32,
+    /// How many rounds are run, at most 30.
+    pub rounds: u32,
     /// The front of the names of what is stored.
     pub out: &'a str,
 }
 
 /// The number, if it is from `low` to `high`.
 fn in_range(low: u32, high: u32, value: u64) -> Option<u32>
-    ensures { result ≡ in_range low high value }
+    ensures value { result ≡ in_range low high value }
+    ensures range { IfSome result (λ n. (low ≤ n) × (n ≤ high)) }
 {
     if u64::from(low) <= value && value <= u64::from(high) {
         Some(value as u32)
@@ -30,7 +34,8 @@ fn in_range(low: u32, high: u32, value: u64) -> Option<u32>
 /// A number from `low` to `high`, in decimal digits alone.
 fn number_in(low: u32, high: u32, word: &str) -> Option<u32>
     requires { high ≤ 2 ^ 30 }
-    ensures { result ≡ number_in low high word.now }
+    ensures value { result ≡ number_in low high word.now }
+    ensures range { IfSome result (λ n. (low ≤ n) × (n ≤ high)) }
 {
     match natural(word.as_bytes()) {
         Some(value) => in_range(low, high, value),
@@ -68,7 +73,8 @@ fn number_of<'a>(
     words: &'a [String],
 ) -> Option<(u32, &'a [String])>
     requires { high ≤ 2 ^ 30 }
-    ensures { option_map (λ x. (x.0, map string_bytes x.1.now)) result ≡ number_of name.now low high (map string_bytes words.now) }
+    ensures value { option_map (λ x. (x.0, map string_bytes x.1.now)) result ≡ number_of name.now low high (map string_bytes words.now) }
+    ensures range { IfSome result (λ x. (low ≤ x.0) × (x.0 ≤ high)) }
 {
     let (value, rest) = value_of(name, words)?;
     let n = number_in(low, high, value)?;
@@ -78,17 +84,23 @@ fn number_of<'a>(
 /// The job that the words ask for. None where they aren't of the one form, in its order.
 #[tactic(auto, unfolding(crate::specs::Words::job_of))]
 pub fn job_of<'a>(words: &'a [String]) -> Option<Job<'a>>
-    ensures { option_map (λ job. record { mesh = job.mesh.now; size = job.size; out = job.out.now }) result ≡ job_of (map string_bytes words.now) }
+    ensures value { option_map (λ job. record { mesh = job.mesh.now; size = job.size; rounds = job.rounds; out = job.out.now }) result ≡ job_of (map string_bytes words.now) }
+    ensures size { IfSome result (λ job. is_size job.size ≡ true) }
 {
     let options = after_flag("--plain", words)?;
     let (mesh, options) = value_of("--mesh", options)?;
     let (size, options) = number_of("--uniform", 1, 1 << 30, options)?;
-    let (_rounds, options) = number_of("--rounds", 0, 0, options)?;
+    let (rounds, options) = number_of("--rounds", 0, 30, options)?;
     let (_collapse, options) = number_of("--collapse", 0, 0, options)?;
     let (_swap, options) = number_of("--swap", 0, 0, options)?;
     let (out, options) = value_of("--out", options)?;
     if options.is_empty() {
-        Some(Job { mesh, size, out })
+        Some(Job {
+            mesh,
+            size,
+            rounds,
+            out,
+        })
     } else {
         None
     }

@@ -4,4 +4,4 @@ use Rattle.meshadapt.proofs.lines.mesh_line.Goals as goal
 
 pub returns : goal.returns
 unfolding mesh_line
-returns c = rw (c.in_ok-format.ensures.ok, c.len-tets.ensures, c.len-nodes.ensures, c.requires) (sym (simp append_assoc))
+returns c = rw (c.in_ok-format.ensures.ok, c.len-tets.ensures, c.in_ok-nodes.ensures) (sym (simp append_assoc))

@@ -1,0 +1,4 @@
+use Rattle.meshadapt.proofs.measures.+grid_up_to.Given as goal
+
+abbrev pub decreases-grid_up_to : goal.decreases-grid_up_to
+decreases-grid_up_to l = l.exponent
