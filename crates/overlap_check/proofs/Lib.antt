@@ -1,0 +1,13 @@
+pub mod Values
+pub mod Anys
+pub mod Spans
+pub mod Boxes
+pub mod Kept
+pub mod Orders
+pub mod Sweeps
+pub mod Pinned
+pub mod FormValues
+pub mod InnerPoints
+pub mod CoverOnce
+pub mod BothSides
+pub mod NoOverlap

@@ -1,0 +1,4 @@
+pub mod Forms
+pub mod Overlap
+pub mod Sweep
+pub mod Laws
