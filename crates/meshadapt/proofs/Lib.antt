@@ -1,6 +1,8 @@
 pub mod Carried
-pub mod Numbering
 pub mod Numbers
 pub mod Running
-pub mod TextLines
+pub mod Reading
+pub mod Accepting
 pub mod Kept
+pub mod Pieces
+pub mod Finished

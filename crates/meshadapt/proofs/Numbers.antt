@@ -1,19 +1,30 @@
--- A number that is read up to 2^63 is read exactly where its range ends before.
-use Rattle.std.proofs.Common.{◌≡◌, ℕ, ◌≤◌, ◌^◌, List, Some, None, refl, arith}
+-- A number of 64 bits is read exactly where its range ends before.
+use Rattle.std.proofs.Common.{◌≡◌, ℕ, ◌≤◌, ◌^◌, List, true, false, cond, refl, arith}
+use Rattle.std.specs.Prelude.{Option, Some, None, Result, Ok, Err, nat_lt, pos}
 use Rattle.std.proofs.lemmas.Bool.Decides.{nat_tests}
-use Rattle.msh_read.specs.Digits.{magnitude_of, not_past}
-use Rattle.msh_read.specs.Number.{natural_of}
-use Rattle.msh_read.specs.Steps.{◌>>=◌}
+use Rattle.ma_text.specs.Numbers as numbers
+use Rattle.ma_text.specs.declared.number.NumberFault.{NumberFault}
+use Rattle.ma_text.specs.declared.number.NumberFault.TheVariants.{TooBig}
 use Rattle.meshadapt.specs.Words.{in_range, number_in}
 
--- what is past 2^63 is past the range
-past_range : (low high n : ℕ) → high ≤ 2 ^ 30 → (not_past n >>= in_range low high) ≡ in_range low high n
-past_range low high n small = grind (arith, nat_tests)
+-- the number that was read, if it is in the range
+abbrev pub taken_in : ℕ → ℕ → Result ℕ NumberFault → Option ℕ
+taken_in low high (Ok n) = in_range low high n
+taken_in low high (Err fault) = None
 
-pub number_in_is : (low high : ℕ) (word : List ℕ) → high ≤ 2 ^ 30 → (magnitude_of word >>= in_range low high) ≡ number_in low high word
-unfolding magnitude_of number_in
+-- what is past 64 bits is past the range
+past_range : (low high n : ℕ) → high ≤ 2 ^ 30 → nat_lt n (2 ^ 64) ≡ false → None ≡ in_range low high n
+past_range low high n small past = grind (arith, nat_tests)
+
+pub number_in_is : (low high : ℕ) (word : List ℕ) → high ≤ 2 ^ 30 → taken_in low high (numbers.natural_answer (numbers.signed false word)) ≡ number_in low high word
+unfolding number_in
 number_in_is low high word small =
-    elim (natural_of word) as (λ o. ((o >>= not_past) >>= in_range low high) ≡ (o >>= in_range low high)) [
-      | None ↦ refl
-      | Some n ↦ past_range low high n small
+    let n : ℕ = numbers.value_of word in
+    elim (numbers.are_digits word) as (λ b. taken_in low high (numbers.natural_answer (cond b (Some (pos n)) None)) ≡ cond b (in_range low high n) None) [
+      | true ↦
+          elim (nat_lt n (2 ^ 64)) as (λ b. nat_lt n (2 ^ 64) ≡ b → taken_in low high (cond b (Ok n) (Err TooBig)) ≡ in_range low high n) [
+            | true ↦ λ _. refl
+            | false ↦ λ past. past_range low high n small past
+          ] refl
+      | false ↦ refl
     ]

@@ -1,5 +1,4 @@
 pub mod Words
-pub mod Text
 pub mod Verdict
 pub mod Printed
 pub mod Outcome

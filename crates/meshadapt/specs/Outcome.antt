@@ -5,15 +5,16 @@ use Rattle.ma_cells.specs.declared.batch.Batch.{Batch}
 use Rattle.ma_io.specs.Count.{Rose}
 use Rattle.ma_io.specs.Files.{Files}
 use Rattle.ma_io.specs.Store.{HoldsFront}
-use Rattle.msh_read.specs.declared.fault.MshFault.TheVariants.{At, OtherForm, Memory as NoMemory}
+use Rattle.mesh_check.specs.declared.fault.MeshFault.TheVariants as faults
+use Rattle.msh_read.specs.declared.fault.MshFault.TheVariants.{At, Memory as NoMemory}
+use Rattle.msh_write.specs.Text.{text_of}
 use Rattle.one_mesh.specs.Adaptation.{IsFirstPast, StaysWithin, adapted}
 use Rattle.meshadapt.specs.declared.status.Refusal.{Refusal}
-use Rattle.meshadapt.specs.declared.status.Refusal.TheVariants.{Missing, TooLong, Mesh, Rounds}
+use Rattle.meshadapt.specs.declared.status.Refusal.TheVariants.{Missing, TooLong, Mesh, Accept, Rounds}
 use Rattle.meshadapt.specs.declared.status.Status.{Status}
 use Rattle.meshadapt.specs.declared.status.Status.TheVariants.{Done, Usage, ReadFault, WriteFault, Refused, TooMany, Memory}
 use Rattle.meshadapt.specs.Printed.{done_line, mesh_line, mesh_name, read_fault_line, refused_line, round_lines, too_many_line, usage_line, write_fault_line}
-use Rattle.meshadapt.specs.Text.{text_of}
-use Rattle.meshadapt.specs.Verdict.{verdict}
+use Rattle.meshadapt.specs.Verdict.{Accepted, verdict}
 use Rattle.meshadapt.specs.Words.{Job, field_of}
 
 -- what the depot and the sink mean at one moment
@@ -26,28 +27,34 @@ pub record Seen : Type 0 where
   pub faults : ℕ
 
 -- where the depot tells its files, this is the verdict on the job
-abbrev pub IsVerdict : Seen → Job → Result Batch Refusal → Type 0
+abbrev pub IsVerdict : Seen → Job → Result Accepted Refusal → Type 0
 IsVerdict s job v = IfSome s.files (λ files. verdict files job ≡ v)
 
 -- the mesh after all rounds
 abbrev pub final : Job → Batch → Batch
 final job mesh = adapted (field_of job) job.rounds mesh
 
--- the line of the mesh, those of so many rounds, and the last line
-abbrev pub lines_with : ℕ → Job → Batch → List ℕ → List ℕ
-lines_with rounds job mesh last = mesh_line mesh ++ (round_lines (field_of job) rounds mesh ++ last)
+-- its text, with the names of the file
+abbrev pub final_text : Job → Accepted → List ℕ
+final_text job accepted = text_of (final job accepted.mesh) accepted.names
 
--- where the depot told its files, they are the old ones with the text of the mesh
-abbrev pub Stores : Seen → Seen → Job → Batch → Type 0
-Stores s t job mesh = IfSome s.files (λ files. t.files ≡ Some (map.insert files (mesh_name job) (text_of mesh.tets)))
+-- the line of the mesh, those of so many rounds, and the last line
+abbrev pub lines_with : ℕ → Job → Accepted → List ℕ → List ℕ
+lines_with rounds job accepted last =
+    mesh_line accepted.mesh accepted.loose ++ (round_lines (field_of job) rounds accepted.mesh ++ last)
+
+-- where the depot told its files, they are the old ones with this text of the mesh
+abbrev pub Stores : Seen → Seen → Job → List ℕ → Type 0
+Stores s t job text = IfSome s.files (λ files. t.files ≡ Some (map.insert files (mesh_name job) text))
 
 -- likewise, with a front of the text, or with what was there
-abbrev pub StoresFront : Seen → Seen → Job → Batch → Type 0
-StoresFront s t job mesh = IfSome s.files (λ files. HoldsFront files t.files (mesh_name job) (text_of mesh.tets))
+abbrev pub StoresFront : Seen → Seen → Job → List ℕ → Type 0
+StoresFront s t job text = IfSome s.files (λ files. HoldsFront files t.files (mesh_name job) text)
 
 -- No file has changed; or the mesh stays within the limit, and the text after all rounds is stored, or a front of it.
-abbrev pub StoresAtMost : Seen → Seen → Job → Batch → Type 0
-StoresAtMost s t job mesh = (t.files ≡ s.files) ⊎ (StaysWithin (field_of job) job.rounds mesh × StoresFront s t job (final job mesh))
+abbrev pub StoresAtMost : Seen → Seen → Job → Accepted → Type 0
+StoresAtMost s t job accepted =
+    (t.files ≡ s.files) ⊎ (StaysWithin (field_of job) job.rounds accepted.mesh × StoresFront s t job (final_text job accepted))
 
 -- where the sink told its bytes, these have come to them
 abbrev pub Prints : Seen → Seen → List ℕ → Type 0
@@ -62,18 +69,19 @@ abbrev pub RefusalCounted : Refusal → Seen → Seen → Type 0
 RefusalCounted (Missing file) s t = Rose s.denied t.denied
 RefusalCounted (TooLong file) s t = Rose s.denied t.denied
 RefusalCounted (Mesh (At line kind)) s t = Unit {0}
-RefusalCounted (Mesh OtherForm) s t = Unit {0}
 RefusalCounted (Mesh NoMemory) s t = ⊥
+RefusalCounted (Accept faults.Memory) s t = ⊥
+RefusalCounted (Accept fault) s t = Unit {0}
 RefusalCounted (Rounds rounds grid) s t = Unit {0}
 
 pub record LeavesDone (words : Option Job) (s t : Seen) : Type 0 where
   pub job : Job
-  pub mesh : Batch
+  pub accepted : Accepted
   pub words_are : words ≡ Some job
-  pub verdict : IsVerdict s job (Ok mesh)
-  pub within : StaysWithin (field_of job) job.rounds mesh
-  pub files : Stores s t job (final job mesh)
-  pub printed : Prints s t (lines_with job.rounds job mesh done_line)
+  pub verdict : IsVerdict s job (Ok accepted)
+  pub within : StaysWithin (field_of job) job.rounds accepted.mesh
+  pub files : Stores s t job (final_text job accepted)
+  pub printed : Prints s t (lines_with job.rounds job accepted done_line)
 
 pub record LeavesUsage (words : Option Job) (s t : Seen) : Type 0 where
   pub words_are : words ≡ None
@@ -98,31 +106,31 @@ pub record LeavesRefused (refusal : Refusal) (words : Option Job) (s t : Seen) :
 -- no round past the limit is printed, nor one after it
 pub record LeavesTooMany (round stage count : ℕ) (words : Option Job) (s t : Seen) : Type 0 where
   pub job : Job
-  pub mesh : Batch
+  pub accepted : Accepted
   pub words_are : words ≡ Some job
-  pub verdict : IsVerdict s job (Ok mesh)
+  pub verdict : IsVerdict s job (Ok accepted)
   pub stage_is : stage ≡ 0
-  pub first : IsFirstPast (field_of job) job.rounds mesh round count
+  pub first : IsFirstPast (field_of job) job.rounds accepted.mesh round count
   pub files : t.files ≡ s.files
-  pub printed : PrintsUnlessFailed s t (lines_with (round - 1) job mesh (too_many_line round stage count))
+  pub printed : PrintsUnlessFailed s t (lines_with (round - 1) job accepted (too_many_line round stage count))
 
 pub record LeavesWriteFault (words : Option Job) (s t : Seen) : Type 0 where
   pub job : Job
-  pub mesh : Batch
+  pub accepted : Accepted
   pub words_are : words ≡ Some job
-  pub verdict : IsVerdict s job (Ok mesh)
+  pub verdict : IsVerdict s job (Ok accepted)
   pub counted : Rose s.store_faults t.store_faults ⊎ Rose s.faults t.faults
-  pub files : StoresAtMost s t job mesh
-  pub printed : PrintsUnlessFailed s t (lines_with job.rounds job mesh (write_fault_line (mesh_name job)))
+  pub files : StoresAtMost s t job accepted
+  pub printed : PrintsUnlessFailed s t (lines_with job.rounds job accepted (write_fault_line (mesh_name job)))
 
 -- a run that wants memory has changed no file, or it is at the file that it stores
 pub record StoresMeshFront (words : Option Job) (s t : Seen) : Type 0 where
   pub job : Job
-  pub mesh : Batch
+  pub accepted : Accepted
   pub words_are : words ≡ Some job
-  pub verdict : IsVerdict s job (Ok mesh)
-  pub within : StaysWithin (field_of job) job.rounds mesh
-  pub files : StoresFront s t job (final job mesh)
+  pub verdict : IsVerdict s job (Ok accepted)
+  pub within : StaysWithin (field_of job) job.rounds accepted.mesh
+  pub files : StoresFront s t job (final_text job accepted)
 
 abbrev pub LeavesMemory : Option Job → Seen → Seen → Type 0
 LeavesMemory words s t = (t.files ≡ s.files) ⊎ StoresMeshFront words s t
@@ -156,11 +164,11 @@ RefusalIsAnswered status words s t =
 -- likewise, a job that is accepted is done, if its mesh stays within the limit
 abbrev pub AcceptedIsDone : Status → Option Job → Seen → Seen → Type 0
 AcceptedIsDone status words s t =
-    (job : Job) (files : Files) (mesh : Batch) → words ≡ Some job → s.files ≡ Some files → verdict files job ≡ Ok mesh
-    → StaysWithin (field_of job) job.rounds mesh → IsQuiet s t → EndsWith status Done
+    (job : Job) (files : Files) (accepted : Accepted) → words ≡ Some job → s.files ≡ Some files → verdict files job ≡ Ok accepted
+    → StaysWithin (field_of job) job.rounds accepted.mesh → IsQuiet s t → EndsWith status Done
 
 -- likewise, the first round after which the mesh of such a job is past the limit is answered
 abbrev pub TooManyIsAnswered : Status → Option Job → Seen → Seen → Type 0
 TooManyIsAnswered status words s t =
-    (job : Job) (files : Files) (mesh : Batch) (round count : ℕ) → words ≡ Some job → s.files ≡ Some files → verdict files job ≡ Ok mesh
-    → IsFirstPast (field_of job) job.rounds mesh round count → IsQuiet s t → EndsWith status (TooMany round 0 count)
+    (job : Job) (files : Files) (accepted : Accepted) (round count : ℕ) → words ≡ Some job → s.files ≡ Some files → verdict files job ≡ Ok accepted
+    → IsFirstPast (field_of job) job.rounds accepted.mesh round count → IsQuiet s t → EndsWith status (TooMany round 0 count)

@@ -1,29 +1,32 @@
 -- The lines that a run prints.
 use Rattle.std.specs.Prelude.{ℕ, zero, suc, List, [], ◌∷◌, ◌++◌, length, map, min, codes}
-use Rattle.std.specs.Fmt.{decimal}
+use Rattle.std.specs.Fmt.{decimal, signed_decimal}
+use Rattle.std.specs.List.{count_by}
 use Rattle.ma_geom.specs.Quality.{quality}
 use Rattle.ma_cells.specs.Tetrahedron.{Tetrahedron}
 use Rattle.ma_cells.specs.declared.batch.Batch.{Batch}
+use Rattle.mesh_check.specs.declared.fault.MeshFault.{MeshFault}
+use Rattle.mesh_check.specs.declared.fault.MeshFault.TheVariants as faults
 use Rattle.msh_read.specs.declared.fault.MshFault.{MshFault}
-use Rattle.msh_read.specs.declared.fault.MshFault.TheVariants.{At, OtherForm, Memory}
+use Rattle.msh_read.specs.declared.fault.MshFault.TheVariants.{At, Memory}
 use Rattle.msh_read.specs.declared.fault.MshKind.{MshKind}
-use Rattle.msh_read.specs.declared.fault.MshKind.TheVariants.{NoFormat}
+use Rattle.msh_read.specs.declared.fault.MshKind.TheVariants.{NoFormat, OtherVersion, Binary, BadLine, BadCount, NotWhole, OutOfRange, NodeTwice, NoSuchNode, OtherKind, Truncated, NoNodes, NoElements}
+use Rattle.msh_write.specs.Text.{is_tagged, nodes_of}
 use Rattle.one_mesh.specs.Adaptation.{adapted}
 use Rattle.size_marks.specs.Field.{Field}
 use Rattle.meshadapt.specs.declared.status.FileKind.{FileKind}
 use Rattle.meshadapt.specs.declared.status.FileKind.TheVariants.{MeshFile}
 use Rattle.meshadapt.specs.declared.status.Refusal.{Refusal}
-use Rattle.meshadapt.specs.declared.status.Refusal.TheVariants.{Missing, TooLong, Mesh, Rounds}
-use Rattle.meshadapt.specs.Text.{nodes_of}
+use Rattle.meshadapt.specs.declared.status.Refusal.TheVariants.{Missing, TooLong, Mesh, Accept, Rounds}
 use Rattle.meshadapt.specs.Words.{Job}
 
 abbrev pub ended_line : List ℕ → List ℕ
 ended_line line = line ++ 10 ∷ []
 
--- A mesh has no marks that are written yet, and none is loose.
-unfoldable pub mesh_line : Batch → List ℕ
-mesh_line mesh =
-    ended_line (codes "mesh: tets " ++ decimal (length mesh.tets) ++ codes " nodes " ++ decimal (length (nodes_of mesh.tets)) ++ codes " marks 0 loose 0")
+-- the mesh before its rounds: of its marks those that have another tag than 0 0, and how many were loose
+unfoldable pub mesh_line : Batch → ℕ → List ℕ
+mesh_line mesh loose =
+    ended_line (codes "mesh: tets " ++ decimal (length mesh.tets) ++ codes " nodes " ++ decimal (length (nodes_of mesh.tets)) ++ codes " marks " ++ decimal (count_by is_tagged mesh.marks) ++ codes " loose " ++ decimal loose)
 
 -- the least of these numbers, zero where there is none
 abbrev pub least : List ℕ → ℕ
@@ -73,11 +76,34 @@ write_fault_line name = ended_line (codes "write fault: " ++ name)
 
 abbrev pub kind_text : MshKind → List ℕ
 kind_text NoFormat = codes "no format"
+kind_text OtherVersion = codes "other version"
+kind_text Binary = codes "binary"
+kind_text BadLine = codes "bad line"
+kind_text BadCount = codes "bad count"
+kind_text NotWhole = codes "not whole"
+kind_text OutOfRange = codes "out of range"
+kind_text NodeTwice = codes "node twice"
+kind_text NoSuchNode = codes "no such node"
+kind_text (OtherKind kind) = codes "element type " ++ signed_decimal kind
+kind_text Truncated = codes "truncated"
+kind_text NoNodes = codes "no nodes"
+kind_text NoElements = codes "no elements"
 
-abbrev pub mesh_refusal_text : MshFault → List ℕ
-mesh_refusal_text (At line kind) = codes "mesh line " ++ decimal line ++ codes ": " ++ kind_text kind
-mesh_refusal_text OtherForm = codes "mesh: other form"
-mesh_refusal_text Memory = codes "memory"
+-- why a file can't be read
+abbrev pub reading_text : MshFault → List ℕ
+reading_text (At line kind) = codes "mesh line " ++ decimal line ++ codes ": " ++ kind_text kind
+reading_text Memory = codes "memory"
+
+-- why a mesh isn't accepted
+abbrev pub fault_text : MeshFault → List ℕ
+fault_text faults.NoTets = codes "no tetrahedra"
+fault_text (faults.TooManyTets count) = decimal count ++ codes " tetrahedra"
+fault_text (faults.TooFar node) = codes "node " ++ decimal node ++ codes " too far"
+fault_text (faults.SamePlace node other) = codes "nodes " ++ decimal node ++ codes " and " ++ decimal other ++ codes " at one place"
+fault_text (faults.Flat tet) = codes "tetrahedron " ++ decimal tet ++ codes " flat"
+fault_text (faults.Repeated tet other) = codes "tetrahedra " ++ decimal tet ++ codes " and " ++ decimal other ++ codes " the same"
+fault_text (faults.Overlap tet other) = codes "tetrahedra " ++ decimal tet ++ codes " and " ++ decimal other ++ codes " overlap"
+fault_text faults.Memory = codes "memory"
 
 abbrev pub file_text : FileKind → List ℕ
 file_text MeshFile = codes "mesh"
@@ -85,7 +111,8 @@ file_text MeshFile = codes "mesh"
 abbrev pub refusal_text : Refusal → List ℕ
 refusal_text (Missing file) = file_text file ++ codes ": missing"
 refusal_text (TooLong file) = file_text file ++ codes ": too long"
-refusal_text (Mesh fault) = mesh_refusal_text fault
+refusal_text (Mesh fault) = reading_text fault
+refusal_text (Accept fault) = codes "mesh: " ++ fault_text fault
 refusal_text (Rounds rounds grid) = codes "rounds " ++ decimal rounds ++ codes " grid " ++ decimal grid
 
 unfoldable pub refused_line : Refusal → List ℕ

@@ -6,34 +6,52 @@ use Rattle.ma_io.specs.Count.{Rose}
 use Rattle.ma_io.specs.Store.{HoldsFront}
 use Rattle.ma_io.specs.declared.faults.SinkFault.{SinkFault}
 use Rattle.ma_io.specs.declared.faults.SinkFault.TheVariants as sink
-use Rattle.msh_read.specs.declared.fault.MshFault.{MshFault}
-use Rattle.msh_read.specs.declared.fault.MshFault.TheVariants.{At, OtherForm, Memory as MshMemory}
+use Rattle.mesh_check.specs.declared.fault.MeshFault.TheVariants as faults
+use Rattle.msh_read.specs.GroupNames.{GroupName}
+use Rattle.msh_read.specs.declared.fault.MshFault.TheVariants.{At, Memory as NoMemory}
+use Rattle.msh_write.specs.Text.{text_of}
 use Rattle.one_mesh.specs.Adaptation.{IsFirstPast, StaysWithin, adapted, most_tets}
 use Rattle.one_mesh.specs.Holding.{Holding}
 use Rattle.size_marks.specs.Field.{Field}
+use Rattle.meshadapt.specs.declared.fetching.Fetched.{Fetched}
 use Rattle.meshadapt.specs.declared.fetching.Unread.{Unread}
 use Rattle.meshadapt.specs.declared.fetching.Unread.TheVariants as unread
 use Rattle.meshadapt.specs.declared.rounds.Halt.{Halt}
 use Rattle.meshadapt.specs.declared.rounds.Halt.TheVariants as halt
+use Rattle.meshadapt.specs.declared.status.Refusal.{Refusal}
+use Rattle.meshadapt.specs.declared.status.Refusal.TheVariants.{Missing, TooLong, Mesh, Accept, Rounds}
 use Rattle.meshadapt.specs.declared.status.Status.{Status}
 use Rattle.meshadapt.specs.declared.status.Status.TheVariants.{Done, Usage, ReadFault, WriteFault, Refused, TooMany, Memory}
-use Rattle.meshadapt.specs.Outcome.{Prints, PrintsUnlessFailed, RefusalCounted, Seen, Stores, StoresAtMost, final}
+use Rattle.meshadapt.specs.Outcome.{Prints, PrintsUnlessFailed, RefusalCounted, Seen, Stores, StoresAtMost, final_text}
 use Rattle.meshadapt.specs.Printed.{done_line, mesh_name, round_line, round_lines, too_many_line, write_fault_line}
-use Rattle.meshadapt.specs.Text.{text_of}
-use Rattle.meshadapt.specs.Verdict.{for_rounds, verdict_on}
+use Rattle.meshadapt.specs.Verdict.{Accepted, for_rounds, verdict_on}
 use Rattle.meshadapt.specs.Words.{Job, field_of}
 
--- What was answered is what is stated, unless memory ran out.
-abbrev pub Reads : {X Y : Type 0} → (X → Y) → Result X MshFault → Result Y MshFault → Type 0
-Reads view (Ok x) read = read ≡ Ok (view x)
-Reads view (Err MshMemory) read = Unit {0}
-Reads view (Err OtherForm) read = read ≡ Err OtherForm
-Reads view (Err (At line kind)) read = read ≡ Err (At line kind)
+-- what was fetched
+abbrev pub seen : Fetched → Accepted
+seen fetched = record { mesh = fetched.mesh.mesh; loose = fetched.loose; names = fetched.names.items }
+
+-- what the bytes of a file may be refused for
+abbrev pub IsOfBytes : Refusal → Type 0
+IsOfBytes (Missing file) = ⊥
+IsOfBytes (TooLong file) = ⊥
+IsOfBytes (Mesh NoMemory) = ⊥
+IsOfBytes (Mesh (At line kind)) = Unit {0}
+IsOfBytes (Accept faults.Memory) = ⊥
+IsOfBytes (Accept fault) = Unit {0}
+IsOfBytes (Rounds rounds grid) = Unit {0}
+
+-- What was answered to bytes is what is stated, unless memory ran out.
+abbrev pub Reads : Result Fetched Unread → Result Accepted Refusal → Type 0
+Reads (Ok fetched) read = (fetched.mesh.spent ≡ false) × (read ≡ Ok (seen fetched))
+Reads (Err unread.ReadFault) read = ⊥
+Reads (Err (unread.Refused refusal)) read = IsOfBytes refusal × (read ≡ Err refusal)
+Reads (Err unread.Memory) read = Unit {0}
 
 -- a mesh was fetched that is accepted for so many rounds, or why none was
-abbrev pub Fetches : Result Holding Unread → List ℕ → ℕ → Seen → Seen → Type 0
-Fetches (Ok held) name rounds s t =
-    (held.spent ≡ false) × IfSome s.files (λ files. for_rounds rounds (verdict_on (map.get files name)) ≡ Ok held.mesh)
+abbrev pub Fetches : Result Fetched Unread → List ℕ → ℕ → Seen → Seen → Type 0
+Fetches (Ok fetched) name rounds s t =
+    (fetched.mesh.spent ≡ false) × IfSome s.files (λ files. for_rounds rounds (verdict_on (map.get files name)) ≡ Ok (seen fetched))
 Fetches (Err unread.ReadFault) name rounds s t = Rose s.fetch_faults t.fetch_faults
 Fetches (Err (unread.Refused refusal)) name rounds s t =
     IfSome s.files (λ files. for_rounds rounds (verdict_on (map.get files name)) ≡ Err refusal) × RefusalCounted refusal s t
@@ -94,26 +112,27 @@ Carries (Refused refusal) put name text fault_line s t = ⊥
 Carries (TooMany round stage count) put name text fault_line s t = ⊥
 
 -- after the bytes that were put before, the lines of the rounds and the last line were put, and the mesh was stored; or what else ended the run
-abbrev pub Finishes : Status → List ℕ → Job → Batch → Seen → Seen → Type 0
-Finishes Done put job mesh s t =
-    StaysWithin (field_of job) job.rounds mesh × Stores s t job (final job mesh) × Prints s t (put ++ (round_lines (field_of job) job.rounds mesh ++ done_line))
-Finishes (TooMany round stage count) put job mesh s t =
-    (stage ≡ 0) × IsFirstPast (field_of job) job.rounds mesh round count × (t.files ≡ s.files)
-    × PrintsUnlessFailed s t (put ++ (round_lines (field_of job) (round - 1) mesh ++ too_many_line round stage count))
-Finishes WriteFault put job mesh s t =
-    (Rose s.store_faults t.store_faults ⊎ Rose s.faults t.faults) × StoresAtMost s t job mesh
-    × PrintsUnlessFailed s t (put ++ (round_lines (field_of job) job.rounds mesh ++ write_fault_line (mesh_name job)))
-Finishes Memory put job mesh s t = StoresAtMost s t job mesh
-Finishes Usage put job mesh s t = ⊥
-Finishes ReadFault put job mesh s t = ⊥
-Finishes (Refused refusal) put job mesh s t = ⊥
+abbrev pub Finishes : Status → List ℕ → Job → Accepted → Seen → Seen → Type 0
+Finishes Done put job accepted s t =
+    StaysWithin (field_of job) job.rounds accepted.mesh × Stores s t job (final_text job accepted)
+    × Prints s t (put ++ (round_lines (field_of job) job.rounds accepted.mesh ++ done_line))
+Finishes (TooMany round stage count) put job accepted s t =
+    (stage ≡ 0) × IsFirstPast (field_of job) job.rounds accepted.mesh round count × (t.files ≡ s.files)
+    × PrintsUnlessFailed s t (put ++ (round_lines (field_of job) (round - 1) accepted.mesh ++ too_many_line round stage count))
+Finishes WriteFault put job accepted s t =
+    (Rose s.store_faults t.store_faults ⊎ Rose s.faults t.faults) × StoresAtMost s t job accepted
+    × PrintsUnlessFailed s t (put ++ (round_lines (field_of job) job.rounds accepted.mesh ++ write_fault_line (mesh_name job)))
+Finishes Memory put job accepted s t = StoresAtMost s t job accepted
+Finishes Usage put job accepted s t = ⊥
+Finishes ReadFault put job accepted s t = ⊥
+Finishes (Refused refusal) put job accepted s t = ⊥
 
 -- the run ends so, and its last line was put, unless memory ran out
 abbrev pub EndsAs : Status → Status → List ℕ → Seen → Seen → Type 0
 EndsAs status wanted line s t = ((status ≡ wanted) × PrintsUnlessFailed s t line) ⊎ (status ≡ Memory)
 
 -- the name and the text of a mesh that is stored under this front of a name
-pub record IsOutput (name text fault_line : List ℕ) (mesh : Batch) (out : List ℕ) : Type 0 where
+pub record IsOutput (name text fault_line : List ℕ) (mesh : Batch) (names : List GroupName) (out : List ℕ) : Type 0 where
   pub name_is : name ≡ out ++ codes ".msh"
-  pub text_is : text ≡ text_of mesh.tets
+  pub text_is : text ≡ text_of mesh names
   pub fault_line_is : fault_line ≡ write_fault_line (out ++ codes ".msh")

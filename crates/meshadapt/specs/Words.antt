@@ -1,8 +1,8 @@
 -- The words of a job.
 use Rattle.std.specs.Prelude.{ℕ, ◌^◌, ◌&&◌, ◌==◌, nat_le, if◌then◌else◌, List, [], ◌∷◌, length, Option, Some, None, codes}
+use Rattle.std.specs.Option.{option_and_then}
 use Rattle.std.specs.Str.{bytes_eq}
-use Rattle.msh_read.specs.Number.{natural_of}
-use Rattle.msh_read.specs.Steps.{◌>>=◌}
+use Rattle.ma_text.specs.Numbers as numbers
 use Rattle.size_marks.specs.Field.{Field}
 
 -- the file of the mesh, the size of edges, how many rounds are run, and the name under which files are stored
@@ -22,9 +22,12 @@ in_range low high n = if nat_le low n && nat_le n high then Some n else None
 
 -- a word of digits alone, with a value from low to high
 unfoldable pub number_in : ℕ → ℕ → List ℕ → Option ℕ
-number_in low high word = do
-  n ← natural_of word
-  in_range low high n
+number_in low high word = if numbers.are_digits word then in_range low high (numbers.value_of word) else None
+
+-- one step of reading after another, each of which may find nothing
+infixl 10 ◌>>=◌
+abbrev pub ◌>>=◌ : {A B : Type 0} → Option A → (A → Option B) → Option B
+o >>= f = option_and_then f o
 
 -- the words behind this one, if it comes first
 abbrev pub after_flag : List ℕ → List (List ℕ) → Option (List (List ℕ))

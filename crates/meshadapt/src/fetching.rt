@@ -1,24 +1,29 @@
 // Fetches the mesh of a job.
-ghost use Rattle.std.specs.Prelude.{◌≡◌, [], IfOk, None, false, true};
-ghost use Rattle.ma_cells.specs.Ascending.{ascending_of};
-ghost use Rattle.ma_cells.specs.Meshes.{are_listed_once};
-ghost use Rattle.ma_cells.specs.Tetrahedron.{tet_cmp};
+ghost use Rattle.std.specs.Prelude.{◌≡◌, None, Ok, false};
 ghost use Rattle.msh_read.specs.Raw.{raw};
-ghost use Rattle.msh_read.specs.Tetrahedra.{IsSound, tets_of};
-ghost use Rattle.meshadapt.specs.Steps.{Fetches, Reads};
-ghost use Rattle.meshadapt.specs.Verdict.{mesh_of, mesh_with};
+ghost use Rattle.meshadapt.specs.Steps.{Fetches, Reads, seen};
+ghost use Rattle.meshadapt.specs.Verdict.{for_rounds, mesh_of, mesh_of_raw, named, within_grid};
 
 use crate::measures::grid;
 use crate::status::{FileKind, Refusal};
-use ma_cells::{Ascending, Mesh, Tet};
+use ma_cells::Mesh;
 use ma_geom::Memory;
 use ma_io::{Depot, FetchFault};
-use msh_read::{MshFault, RawMesh, read_msh};
+use mesh_check::{MeshFault, accept};
+use msh_read::{MshFault, Name, RawMesh, read_msh};
 use one_mesh::OneMesh;
 use std::alloc::Global;
 
 /// How many bytes a file may have.
 const LONGEST: usize = 67_108_864;
+
+/// A mesh that is accepted, how many of its file's marks were loose, and the names of its file.
+#[derive(Debug, Drop)]
+pub struct Fetched {
+    pub mesh: OneMesh,
+    pub loose: u64,
+    pub names: Vec<Name>,
+}
 
 /// Why no mesh was fetched.
 #[derive(Debug, Drop)]
@@ -28,51 +33,74 @@ pub enum Unread {
     Memory,
 }
 
-/// The mesh with these tetrahedra, which has no marks yet.
-fn mesh_with(alloc: Global, tets: Vec<Tet>) -> Result<OneMesh, Memory>
-    requires { are_listed_once tets.items ≡ true }
-    ensures { IfOk result (λ held. held ≡ record { mesh = record { tets = ascending_of tet_cmp tets.items; marks = [] }; spent = false }) }
+/// The mesh with these names.
+fn named(alloc: Global, mesh: &Mesh, names: Vec<Name>) -> Result<Fetched, Unread>
+    ensures { Reads result (Ok (named names.items mesh.now)) }
 {
-    OneMesh::from_mesh(alloc, &Mesh::new(tets, Ascending::new(alloc), 0))
+    match OneMesh::from_mesh(alloc, mesh) {
+        Ok(held) => Ok(Fetched {
+            mesh: held,
+            loose: mesh.loose(),
+            names,
+        }),
+        Err(Memory) => Err(Unread::Memory),
+    }
 }
 
 /// The mesh of a raw mesh.
-fn mesh_of_raw(alloc: Global, mesh: &RawMesh) -> Result<OneMesh, MshFault>
-    requires { IsSound (raw mesh.now) }
-    ensures read { Reads (λ held. held.mesh) result (mesh_with (tets_of (raw mesh.now))) }
-    ensures spent { IfOk result (λ held. held.spent ≡ false) }
+fn mesh_of_raw(alloc: Global, mesh: RawMesh) -> Result<Fetched, Unread>
+    ensures { Reads result (mesh_of_raw (Ok (raw mesh))) }
 {
-    match mesh.tetrahedra(alloc) {
-        Ok(Some(tets)) => match mesh_with(alloc, tets) {
-            Ok(mesh) => Ok(mesh),
-            Err(Memory) => Err(MshFault::Memory),
-        },
-        Ok(None) => Err(MshFault::OtherForm),
-        Err(Memory) => Err(MshFault::Memory),
+    match accept(alloc, &mesh, 0) {
+        Ok(accepted) => named(alloc, &accepted, mesh.names),
+        Err(MeshFault::Memory) => Err(Unread::Memory),
+        Err(fault) => Err(Unread::Refused(Refusal::Accept(fault))),
     }
 }
 
 /// The mesh that the bytes of a file are.
 #[tactic(auto, unfolding(crate::specs::Verdict::mesh_of))]
-fn mesh_of(alloc: Global, bytes: &[u8]) -> Result<OneMesh, MshFault>
-    ensures read { Reads (λ held. held.mesh) result (mesh_of bytes.now) }
-    ensures spent { IfOk result (λ held. held.spent ≡ false) }
+fn mesh_of(alloc: Global, bytes: &[u8]) -> Result<Fetched, Unread>
+    ensures { Reads result (mesh_of bytes.now) }
 {
     match read_msh(alloc, bytes) {
-        Ok(raw) => mesh_of_raw(alloc, &raw),
-        Err(MshFault::At { line, kind }) => Err(MshFault::At { line, kind }),
-        Err(MshFault::OtherForm) => Err(MshFault::OtherForm),
-        Err(MshFault::Memory) => Err(MshFault::Memory),
+        Ok(mesh) => mesh_of_raw(alloc, mesh),
+        Err(MshFault::At { line, kind }) => Err(Unread::Refused(Refusal::Mesh(MshFault::At {
+            line,
+            kind,
+        }))),
+        Err(MshFault::Memory) => Err(Unread::Memory),
     }
 }
 
-/// The mesh in the file of this name, unless more rounds are asked for than its grid can be halved.
+/// The mesh, unless more rounds are asked for than its grid can be halved.
+fn within_grid(fetched: Fetched, rounds: u32) -> Result<Fetched, Unread>
+    requires { fetched.mesh.spent ≡ false }
+    ensures { Reads result (within_grid rounds (seen fetched)) }
+{
+    let grid = grid(fetched.mesh.batch().tets.as_slice());
+    if rounds <= grid {
+        Ok(fetched)
+    } else {
+        Err(Unread::Refused(Refusal::Rounds { rounds, grid }))
+    }
+}
+
+/// The mesh that the bytes of a file are, likewise.
+fn mesh_for(alloc: Global, bytes: &[u8], rounds: u32) -> Result<Fetched, Unread>
+    ensures { Reads result (for_rounds rounds (mesh_of bytes.now)) }
+{
+    let fetched = mesh_of(alloc, bytes)?;
+    within_grid(fetched, rounds)
+}
+
+/// The mesh in the file of this name, likewise.
 pub fn fetch_mesh<D: Depot>(
     alloc: Global,
     depot: &mut D,
     name: &str,
     rounds: u32,
-) -> Result<OneMesh, Unread>
+) -> Result<Fetched, Unread>
     ensures files { D.files depot.new ≡ D.files depot.old }
     ensures store_faults { D.store_faults depot.new ≡ D.store_faults depot.old }
     ensures fetches { Fetches result name.now rounds
@@ -81,22 +109,7 @@ pub fn fetch_mesh<D: Depot>(
 {
     let mut bytes = Vec::new(alloc);
     match depot.fetch(name, &mut bytes, LONGEST) {
-        Ok(()) => match mesh_of(alloc, bytes.as_slice()) {
-            Ok(mesh) => {
-                let grid = grid(mesh.batch().tets.as_slice());
-                if rounds <= grid {
-                    Ok(mesh)
-                } else {
-                    Err(Unread::Refused(Refusal::Rounds { rounds, grid }))
-                }
-            }
-            Err(MshFault::At { line, kind }) => Err(Unread::Refused(Refusal::Mesh(MshFault::At {
-                line,
-                kind,
-            }))),
-            Err(MshFault::OtherForm) => Err(Unread::Refused(Refusal::Mesh(MshFault::OtherForm))),
-            Err(MshFault::Memory) => Err(Unread::Memory),
-        },
+        Ok(()) => mesh_for(alloc, bytes.as_slice(), rounds),
         Err(FetchFault::Failed) => Err(Unread::ReadFault),
         Err(FetchFault::Absent) => Err(Unread::Refused(Refusal::Missing(FileKind::MeshFile))),
         Err(FetchFault::TooLong) => Err(Unread::Refused(Refusal::TooLong(FileKind::MeshFile))),

@@ -1,33 +1,27 @@
 // The lines that a run prints, and the name of what it stores.
-ghost use Rattle.std.specs.Prelude.{◌≡◌, ◌++◌, IfOk, codes, length, string_bytes};
+ghost use Rattle.std.specs.Prelude.{◌≡◌, ◌++◌, IfOk, codes, string_bytes};
 ghost use Rattle.msh_read.specs.declared.fault.MshFault.TheVariants.{At};
-ghost use Rattle.meshadapt.specs.declared.status.Refusal.TheVariants.{Mesh, Rounds};
-ghost use Rattle.meshadapt.specs.Printed.{mesh_line, read_fault_line, refused_line, round_line, too_many_line, write_fault_line};
-ghost use Rattle.meshadapt.specs.Text.{nodes_of};
+ghost use Rattle.meshadapt.specs.declared.status.Refusal.TheVariants.{Accept, Mesh, Rounds};
+ghost use Rattle.meshadapt.specs.Printed.{fault_text, kind_text, mesh_line, read_fault_line, refused_line, round_line, too_many_line, write_fault_line};
 
-use crate::measures::worst;
+use crate::measures::{tagged_count, worst};
 use crate::status::{FileKind, Refusal};
-use crate::writer::nodes;
 use ma_cells::Batch;
 use ma_geom::Memory;
+use mesh_check::MeshFault;
 use msh_read::{MshFault, MshKind};
+use msh_write::node_count;
 use std::alloc::Global;
 
-fn node_count(alloc: Global, mesh: &Batch) -> Result<usize, Memory>
-    ensures { IfOk result (λ count. count ≡ length (nodes_of mesh.now.tets)) }
-{
-    let nodes = nodes(alloc, mesh.tets.as_slice())?;
-    Ok(nodes.len())
-}
-
-/// The line that tells the size of a mesh before its rounds.
+/// The line that tells the size of a mesh before its rounds, of whose file so many marks were loose.
 #[tactic(auto, unfolding(crate::specs::Printed::mesh_line))]
-pub fn mesh_line(alloc: Global, mesh: &Batch) -> Result<String, Memory>
-    ensures { IfOk result (λ line. string_bytes line ≡ mesh_line mesh.now) }
+pub fn mesh_line(alloc: Global, mesh: &Batch, loose: u64) -> Result<String, Memory>
+    ensures { IfOk result (λ line. string_bytes line ≡ mesh_line mesh.now loose) }
 {
     let tets = mesh.tets.len();
-    let nodes = node_count(alloc, mesh)?;
-    Ok(format!(in alloc; "mesh: tets {tets} nodes {nodes} marks 0 loose 0\n")?)
+    let nodes = node_count(alloc, mesh.tets.as_slice())?;
+    let marks = tagged_count(mesh.marks.as_slice());
+    Ok(format!(in alloc; "mesh: tets {tets} nodes {nodes} marks {marks} loose {loose}\n")?)
 }
 
 /// The line that tells the size and the worst quality of a mesh after this round.
@@ -36,7 +30,7 @@ pub fn round_line(alloc: Global, round: u32, mesh: &Batch) -> Result<String, Mem
     ensures { IfOk result (λ line. string_bytes line ≡ round_line round mesh.now) }
 {
     let tets = mesh.tets.len();
-    let nodes = node_count(alloc, mesh)?;
+    let nodes = node_count(alloc, mesh.tets.as_slice())?;
     let worst = worst(mesh.tets.as_slice());
     Ok(format!(in alloc; "round {round}: tets {tets} nodes {nodes} worst {worst}\n")?)
 }
@@ -72,26 +66,76 @@ pub fn write_fault_line(alloc: Global, name: &str) -> Result<String, Memory>
     Ok(format!(in alloc; "write fault: {name}\n")?)
 }
 
+/// What is told of a fault at a line.
+fn kind_text(alloc: Global, kind: MshKind) -> Result<String, Memory>
+    ensures { IfOk result (λ text. string_bytes text ≡ kind_text kind) }
+{
+    match kind {
+        MshKind::NoFormat => Ok(String::from_str(alloc, "no format")?),
+        MshKind::OtherVersion => Ok(String::from_str(alloc, "other version")?),
+        MshKind::Binary => Ok(String::from_str(alloc, "binary")?),
+        MshKind::BadLine => Ok(String::from_str(alloc, "bad line")?),
+        MshKind::BadCount => Ok(String::from_str(alloc, "bad count")?),
+        MshKind::NotWhole => Ok(String::from_str(alloc, "not whole")?),
+        MshKind::OutOfRange => Ok(String::from_str(alloc, "out of range")?),
+        MshKind::NodeTwice => Ok(String::from_str(alloc, "node twice")?),
+        MshKind::NoSuchNode => Ok(String::from_str(alloc, "no such node")?),
+        MshKind::OtherKind(kind) => Ok(format!(in alloc; "element type {kind}")?),
+        MshKind::Truncated => Ok(String::from_str(alloc, "truncated")?),
+        MshKind::NoNodes => Ok(String::from_str(alloc, "no nodes")?),
+        MshKind::NoElements => Ok(String::from_str(alloc, "no elements")?),
+    }
+}
+
 /// The line that tells the fault of a mesh file at a line of it.
 #[tactic(auto, unfolding(crate::specs::Printed::refused_line))]
 fn faulty_line(alloc: Global, line: u64, kind: MshKind) -> Result<String, Memory>
     ensures { IfOk result (λ text. string_bytes text ≡ refused_line (Mesh (At line kind))) }
 {
-    match kind {
-        MshKind::NoFormat => Ok(format!(in alloc; "refused: mesh line {line}: no format\n")?),
-    }
+    let kind = kind_text(alloc, kind)?;
+    Ok(format!(in alloc; "refused: mesh line {line}: {kind}\n")?)
 }
 
-/// The line that tells the fault of a mesh file.
+/// The line that tells why a mesh file can't be read.
 #[tactic(auto, unfolding(crate::specs::Printed::refused_line))]
-fn faulty_mesh(alloc: Global, fault: MshFault) -> Result<String, Memory>
+fn unread_line(alloc: Global, fault: MshFault) -> Result<String, Memory>
     ensures { IfOk result (λ line. string_bytes line ≡ refused_line (Mesh fault)) }
 {
     match fault {
         MshFault::At { line, kind } => faulty_line(alloc, line, kind),
-        MshFault::OtherForm => Ok(String::from_str(alloc, "refused: mesh: other form\n")?),
         MshFault::Memory => Ok(String::from_str(alloc, "refused: memory\n")?),
     }
+}
+
+/// What is told of a mesh that isn't accepted.
+fn fault_text(alloc: Global, fault: MeshFault) -> Result<String, Memory>
+    ensures { IfOk result (λ text. string_bytes text ≡ fault_text fault) }
+{
+    match fault {
+        MeshFault::NoTets => Ok(String::from_str(alloc, "no tetrahedra")?),
+        MeshFault::TooManyTets(count) => Ok(format!(in alloc; "{count} tetrahedra")?),
+        MeshFault::TooFar(node) => Ok(format!(in alloc; "node {node} too far")?),
+        MeshFault::SamePlace(node, other) => {
+            Ok(format!(in alloc; "nodes {node} and {other} at one place")?)
+        }
+        MeshFault::Flat(tet) => Ok(format!(in alloc; "tetrahedron {tet} flat")?),
+        MeshFault::Repeated(tet, other) => {
+            Ok(format!(in alloc; "tetrahedra {tet} and {other} the same")?)
+        }
+        MeshFault::Overlap(tet, other) => {
+            Ok(format!(in alloc; "tetrahedra {tet} and {other} overlap")?)
+        }
+        MeshFault::Memory => Ok(String::from_str(alloc, "memory")?),
+    }
+}
+
+/// The line that tells why a mesh isn't accepted.
+#[tactic(auto, unfolding(crate::specs::Printed::refused_line))]
+fn unaccepted_line(alloc: Global, fault: MeshFault) -> Result<String, Memory>
+    ensures { IfOk result (λ line. string_bytes line ≡ refused_line (Accept fault)) }
+{
+    let fault = fault_text(alloc, fault)?;
+    Ok(format!(in alloc; "refused: mesh: {fault}\n")?)
 }
 
 /// The line that tells that the grid is too fine for the rounds.
@@ -116,7 +160,8 @@ pub fn refused_line(alloc: Global, refusal: Refusal) -> Result<String, Memory>
             alloc,
             "refused: mesh: too long\n",
         )?),
-        Refusal::Mesh(fault) => faulty_mesh(alloc, fault),
+        Refusal::Mesh(fault) => unread_line(alloc, fault),
+        Refusal::Accept(fault) => unaccepted_line(alloc, fault),
         Refusal::Rounds { rounds, grid } => rounds_line(alloc, rounds, grid),
     }
 }

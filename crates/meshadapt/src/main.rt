@@ -13,7 +13,6 @@ mod status;
 mod tests;
 mod top;
 mod words;
-mod writer;
 
 use ma_io::{DiskDepot, StdSink};
 use std::process::ExitCode;

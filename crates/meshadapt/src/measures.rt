@@ -1,12 +1,15 @@
-// What is told of a mesh: the grid that its places are on, and its worst quality.
+// What is told of a mesh: the grid that its places are on, its worst quality, and how many marks it
+// has.
 ghost use Rattle.std.specs.Prelude.{◌≡◌, ◌∷◌, ◌≤◌, map};
-ghost use Rattle.std.specs.List.{list_all};
+ghost use Rattle.std.specs.List.{count_by, list_all};
 ghost use Rattle.ma_geom.specs.Quality.{quality};
+ghost use Rattle.msh_write.specs.Text.{is_tagged};
 ghost use Rattle.one_mesh.specs.Grid.{are_on_grid, greatest, grid_of, is_multiple, is_on_grid};
 ghost use Rattle.meshadapt.specs.Printed.{least, worst};
 
-use ma_cells::Tet;
+use ma_cells::{Mark, Tet};
 use ma_geom::{Place, quality};
+use msh_write::is_tagged;
 
 /// The exponent of the coarsest grid that is looked for.
 const COARSEST: u32 = 30;
@@ -91,4 +94,11 @@ pub fn worst(tets: &[Tet]) -> u32
         [first, rest @ ..] => worst_with(tet_quality(first), rest),
         [] => 0,
     }
+}
+
+/// How many marks have another tag than 0 0.
+pub fn tagged_count(marks: &[Mark]) -> usize
+    ensures { result ≡ count_by is_tagged marks.now }
+{
+    marks.iter().filter(|mark| is_tagged(mark)).count()
 }

@@ -22,13 +22,18 @@ pub enum Halt {
     Memory,
 }
 
-/// Puts the line of a mesh before its rounds.
-pub fn put_mesh<S: Sink>(alloc: Global, mesh: &Batch, out: &mut S) -> Result<(), SinkFault>
-    ensures { Puts result (mesh_line mesh.now)
+/// Puts the line of a mesh before its rounds, of whose file so many marks were loose.
+pub fn put_mesh<S: Sink>(
+    alloc: Global,
+    mesh: &Batch,
+    loose: u64,
+    out: &mut S,
+) -> Result<(), SinkFault>
+    ensures { Puts result (mesh_line mesh.now loose)
         (record { files = None; fetch_faults = 0; store_faults = 0; denied = 0; written = S.written out.old; faults = S.faults out.old })
         (record { files = None; fetch_faults = 0; store_faults = 0; denied = 0; written = S.written out.new; faults = S.faults out.new }) }
 {
-    match mesh_line(alloc, mesh) {
+    match mesh_line(alloc, mesh, loose) {
         Ok(line) => match out.put(line.as_bytes()) {
             Ok(()) => Ok(()),
             Err(SinkFault::Failed) => Err(SinkFault::Failed),

@@ -2,6 +2,7 @@
 ghost use Rattle.std.specs.Prelude.{◌≡◌};
 ghost use Rattle.meshadapt.specs.Codes.{code_of};
 
+use mesh_check::MeshFault;
 use msh_read::MshFault;
 
 /// A file that a job names.
@@ -17,8 +18,10 @@ pub enum Refusal {
     Missing(FileKind),
     /// The file has more than 67,108,864 bytes.
     TooLong(FileKind),
-    /// The file of the mesh has a fault.
+    /// The file of the mesh can't be read.
     Mesh(MshFault),
+    /// The mesh in the file isn't accepted.
+    Accept(MeshFault),
     /// All coordinates of the mesh are multiples of 2^grid, and of no greater power up to 2^30, and
     /// more rounds than `grid` are asked for.
     Rounds { rounds: u32, grid: u32 },

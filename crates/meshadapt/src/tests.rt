@@ -8,12 +8,17 @@ use std::test::Fail;
 
 const WORDS: &str = "--plain --mesh m.msh --uniform 4 --rounds 0 --collapse 0 --swap 0 --out x";
 
-/// Four nodes and a tetrahedron, up to its nodes.
-const FRONT: &str =
-    "$MeshFormat\n2.2 0 8\n$EndMeshFormat\n$Nodes\n4\n1 0 0 0\n2 8 0 0\n3 0 8 0\n4 0 0 8\n$EndNodes\n$Elements\n1\n1 4 2 0 1 ";
+/// Four nodes and a tetrahedron.
+const MESH: &str =
+    "$MeshFormat\n2.2 0 8\n$EndMeshFormat\n$Nodes\n4\n1 0 0 0\n2 8 0 0\n3 0 8 0\n4 0 0 8\n$EndNodes\n$Elements\n1\n1 4 2 0 1 1 2 3 4\n$EndElements\n";
 
+/// What is stored for it.
 const TETRAHEDRON: &str =
     "$MeshFormat\n2.2 0 8\n$EndMeshFormat\n$Nodes\n4\n1 0 0 0\n2 0 0 8\n3 0 8 0\n4 8 0 0\n$EndNodes\n$Elements\n1\n1 4 2 0 1 1 2 4 3\n$EndElements\n";
+
+/// Two tetrahedra with a node inside of an edge, up to their elements.
+const SPLIT_FRONT: &str =
+    "$MeshFormat\n2.2 0 8\n$EndMeshFormat\n$Nodes\n5\n1 0 0 0\n2 4 0 0\n3 8 0 0\n4 0 8 0\n5 0 0 8\n$EndNodes\n$Elements\n";
 
 const ONE_ROUND: &str = "--plain --mesh m.msh --uniform 4 --rounds 1 --collapse 0 --swap 0 --out x";
 
@@ -65,10 +70,30 @@ fn run(rt: &impl Abort, alloc: Global, words: &str, file: &[u8]) -> Result<Left,
     run_with(rt, alloc, words, file, (&[], &[], &[]))
 }
 
+/// The mesh with this in place of one of its lines, which are counted from 1.
+fn with_line(alloc: Global, number: usize, line: &str) -> Result<String, Fail> {
+    let mut text = String::new(alloc);
+    for (index, old) in MESH.lines().enumerate() {
+        writeln!(text, "{}", if index + 1 == number { line } else { old })?;
+    }
+    Ok(text)
+}
+
+/// Runs over a file, which is to be refused for this.
+fn is_refused(rt: &impl Abort, alloc: Global, file: &[u8], reason: &str) -> Result<(), Fail> {
+    let left = run(rt, alloc, WORDS, file)?;
+    let line = format!(in alloc; "refused: {reason}\n")?;
+    assert_eq!(rt; left.sink.bytes(), line.as_bytes());
+    assert_eq!(rt; left.status.code(), 4, "{reason}");
+    assert!(rt; left.stored().is_none());
+    Ok(())
+}
+
 #[test]
 fn a_tetrahedron_is_stored_in_canonical_order(rt: HostRuntime) -> Result<(), Fail> {
     for nodes in ["1 2 3 4", "1 3 2 4"] {
-        let file = format!(in rt.alloc(); "{FRONT}{nodes}\n$EndElements\n")?;
+        let line = format!(in rt.alloc(); "1 4 2 0 1 {nodes}")?;
+        let file = with_line(rt.alloc(), 13, line.as_str())?;
         let left = run(&rt, rt.alloc(), WORDS, file.as_bytes())?;
         assert_eq!(rt; left.status.code(), 0);
         assert_eq!(rt;
@@ -118,18 +143,6 @@ fn a_mesh_that_is_not_there_is_missing(rt: HostRuntime) -> Result<(), Fail> {
 }
 
 #[test]
-fn an_empty_mesh_has_no_format(rt: HostRuntime) -> Result<(), Fail> {
-    let left = run(&rt, rt.alloc(), WORDS, b"")?;
-    assert_eq!(rt; left.status.code(), 4);
-    assert_eq!(rt;
-        left.sink.bytes(),
-        b"refused: mesh line 1: no format\n".as_slice()
-    );
-    assert!(rt; left.stored().is_none());
-    Ok(())
-}
-
-#[test]
 fn a_mesh_past_the_longest_file_is_too_long(rt: HostRuntime) -> Result<(), Fail> {
     let file = vec![in rt.alloc(); 32u8; 67_108_865]?;
     let left = run(&rt, rt.alloc(), WORDS, file.as_slice())?;
@@ -140,66 +153,124 @@ fn a_mesh_past_the_longest_file_is_too_long(rt: HostRuntime) -> Result<(), Fail>
 }
 
 #[test]
-fn a_file_of_another_form_is_refused(rt: HostRuntime) -> Result<(), Fail> {
-    for file in [
-        TETRAHEDRON.trim_end(),
-        "\n",
-        "no mesh",
-        "$MeshFormat\n2.2 1 8\n$EndMeshFormat\n",
-        "$MeshFormat\r\n2.2 0 8\r\n$EndMeshFormat\r\n",
+fn a_file_without_a_mesh_is_refused(rt: HostRuntime) -> Result<(), Fail> {
+    for (file, reason) in [
+        (b"".as_slice(), "mesh line 1: no format"),
+        (b"\n".as_slice(), "mesh line 2: no format"),
+        (b"no mesh".as_slice(), "mesh line 1: bad line"),
+        (
+            [0xff, 0x00, 0xc3, 0x28, 0x0a, 0x80].as_slice(),
+            "mesh line 1: bad line",
+        ),
     ] {
-        let left = run(&rt, rt.alloc(), WORDS, file.as_bytes())?;
-        assert_eq!(rt; left.status.code(), 4, "{file}");
-        assert_eq!(rt;
-            left.sink.bytes(),
-            b"refused: mesh: other form\n".as_slice()
-        );
-        assert!(rt; left.stored().is_none());
+        is_refused(&rt, rt.alloc(), file, reason)?;
     }
     Ok(())
 }
 
 #[test]
-fn a_tetrahedron_of_another_form_is_refused(rt: HostRuntime) -> Result<(), Fail> {
-    for rest in [
-        "1 2 3 4\n$EndElements",
-        "1  2 3 4\n$EndElements\n",
-        "1 2 3 4 \n$EndElements\n",
-        "1 2 3\n$EndElements\n",
-        "1 2 3 5\n$EndElements\n",
-        "0 1 2 3\n$EndElements\n",
-        "1 2 3 3\n$EndElements\n",
-        "1 2 3 x\n$EndElements\n",
-        "1 2 3 99999999999999999999\n$EndElements\n",
-        "1 2 3 4\n2 4 2 0 1 4 3 2 1\n$EndElements\n",
-        "1 2 3 4\n$EndElements\n\n",
-        "1 2 3 4\n",
+fn a_file_that_ends_too_early_is_refused(rt: HostRuntime) -> Result<(), Fail> {
+    let front = MESH
+        .strip_suffix("1 4 2 0 1 1 2 3 4\n$EndElements\n")
+        .ok_or("another mesh")?;
+    is_refused(&rt, rt.alloc(), front.as_bytes(), "mesh line 13: truncated")
+}
+
+#[test]
+fn the_first_line_that_cannot_be_read_is_told(rt: HostRuntime) -> Result<(), Fail> {
+    for (number, line, reason) in [
+        (2, "2.1 0 8", "mesh line 2: other version"),
+        (2, "2.2 1 8", "mesh line 2: binary"),
+        (6, "1 1073741825 0 0", "mesh line 6: out of range"),
+        (6, "1 12.5 0 0", "mesh line 6: not whole"),
+        (6, "1 1e3 0 0", "mesh line 6: not whole"),
+        (7, "1 8 0 0", "mesh line 7: node twice"),
+        (12, "2", "mesh line 14: bad count"),
+        (13, "1 11 2 0 1 1 2 3 4", "mesh line 13: element type 11"),
+        (13, "1 4 2 0 1 1 2 3 5", "mesh line 13: no such node"),
     ] {
-        let file = format!(in rt.alloc(); "{FRONT}{rest}")?;
-        let left = run(&rt, rt.alloc(), WORDS, file.as_bytes())?;
-        assert_eq!(rt;
-            left.sink.bytes(),
-            b"refused: mesh: other form\n".as_slice(),
-            "{rest}"
-        );
-        assert!(rt; left.stored().is_none());
+        let file = with_line(rt.alloc(), number, line)?;
+        is_refused(&rt, rt.alloc(), file.as_bytes(), reason)?;
     }
     Ok(())
 }
 
 #[test]
-fn bytes_that_are_no_text_are_refused(rt: HostRuntime) -> Result<(), Fail> {
-    let left = run(
+fn a_mesh_that_is_none_is_refused(rt: HostRuntime) -> Result<(), Fail> {
+    for (number, line, reason) in [
+        (13, "1 2 2 0 1 1 2 3", "mesh: no tetrahedra"),
+        (9, "4 0 8 0", "mesh: nodes 3 and 4 at one place"),
+        (9, "4 8 8 0", "mesh: tetrahedron 1 flat"),
+        (
+            12,
+            "2\n2 4 2 5 6 4 3 2 1",
+            "mesh: tetrahedra 1 and 2 the same",
+        ),
+    ] {
+        let file = with_line(rt.alloc(), number, line)?;
+        is_refused(&rt, rt.alloc(), file.as_bytes(), reason)?;
+    }
+    Ok(())
+}
+
+#[test]
+fn zeros_may_stand_behind_a_point(rt: HostRuntime) -> Result<(), Fail> {
+    let file = with_line(rt.alloc(), 7, "2 8.000 0 0")?;
+    let left = run(&rt, rt.alloc(), WORDS, file.as_bytes())?;
+    assert_eq!(rt;
+        left.stored().ok_or("nothing stored")?,
+        TETRAHEDRON.as_bytes()
+    );
+    Ok(())
+}
+
+#[test]
+fn names_are_stored(rt: HostRuntime) -> Result<(), Fail> {
+    let names =
+        "$EndMeshFormat\n$PhysicalNames\n2\n3 1 \"wood\"\n1 -5 \"an edge\"\n$EndPhysicalNames";
+    let file = with_line(rt.alloc(), 3, names)?;
+    let left = run(&rt, rt.alloc(), WORDS, file.as_bytes())?;
+    let stored = left.stored().ok_or("nothing stored")?;
+    assert!(rt;
+        stored.starts_with(
+            b"$MeshFormat\n2.2 0 8\n$EndMeshFormat\n$PhysicalNames\n2\n1 -5 \"an edge\"\n3 1 \"wood\"\n$EndPhysicalNames\n$Nodes\n4\n"
+        )
+    );
+    Ok(())
+}
+
+/// Runs no round over two tetrahedra with these elements, which is to put this line of the mesh.
+fn split_run(rt: &impl Abort, alloc: Global, elements: &str, line: &str) -> Result<Left, Fail> {
+    let words = "--plain --mesh m.msh --uniform 64 --rounds 0 --collapse 0 --swap 0 --out x";
+    let file = format!(in alloc; "{SPLIT_FRONT}{elements}$EndElements\n")?;
+    let left = run(rt, alloc, words, file.as_bytes())?;
+    assert!(rt; left.sink.bytes().starts_with(line.as_bytes()));
+    Ok(left)
+}
+
+#[test]
+fn marks_are_kept_on_edges(rt: HostRuntime) -> Result<(), Fail> {
+    let left = split_run(
         &rt,
         rt.alloc(),
-        WORDS,
-        &[0xff, 0x00, 0xc3, 0x28, 0x0a, 0x80],
+        "4\n1 1 2 0 5 1 2\n2 1 2 0 5 2 3\n3 4 2 0 1 1 2 4 5\n4 4 2 0 1 2 3 4 5\n",
+        "mesh: tets 2 nodes 5 marks 2 loose 0\n",
     )?;
-    assert_eq!(rt;
-        left.sink.bytes(),
-        b"refused: mesh: other form\n".as_slice()
-    );
-    assert!(rt; left.stored().is_none());
+    let stored = left.stored().ok_or("nothing stored")?;
+    assert!(rt; has_line(stored, b"1 1 2 0 5 1 4"));
+    assert!(rt; has_line(stored, b"2 1 2 0 5 4 5"));
+    Ok(())
+}
+
+#[test]
+fn a_line_past_a_node_is_loose(rt: HostRuntime) -> Result<(), Fail> {
+    let left = split_run(
+        &rt,
+        rt.alloc(),
+        "3\n1 1 2 0 5 1 3\n2 4 2 0 1 1 2 4 5\n3 4 2 0 1 2 3 4 5\n",
+        "mesh: tets 2 nodes 5 marks 0 loose 1\n",
+    )?;
+    assert_eq!(rt; left.status.code(), 0);
     Ok(())
 }
 
@@ -267,6 +338,20 @@ fn becomes(
     assert_eq!(rt; left.stored().ok_or("nothing stored")?, refined.as_bytes());
     assert_eq!(rt; left.sink.bytes(), lines.as_bytes());
     Ok(())
+}
+
+#[test]
+fn two_tetrahedra_that_overlap_are_refused(rt: HostRuntime) -> Result<(), Fail> {
+    let nodes = [
+        "0 0 0", "8 0 0", "0 8 0", "0 0 8", "1 1 1", "9 1 1", "1 9 1", "1 1 9",
+    ];
+    let file = file_of(rt.alloc(), &nodes, &["1 2 3 4", "5 6 7 8"])?;
+    is_refused(
+        &rt,
+        rt.alloc(),
+        file.as_bytes(),
+        "mesh: tetrahedra 1 and 2 overlap",
+    )
 }
 
 #[test]
@@ -361,7 +446,7 @@ fn more_rounds_than_the_grid_halves_are_refused(rt: HostRuntime) -> Result<(), F
     let fault = run(&rt, rt.alloc(), words, b"no mesh")?;
     assert_eq!(rt;
         fault.sink.bytes(),
-        b"refused: mesh: other form\n".as_slice()
+        b"refused: mesh line 1: bad line\n".as_slice()
     );
     let most = "--plain --mesh m.msh --uniform 4 --rounds 3 --collapse 0 --swap 0 --out x";
     let done = run(&rt, rt.alloc(), most, TETRAHEDRON.as_bytes())?;

@@ -61,7 +61,7 @@ fn run_job<D: Depot, S: Sink>(alloc: Global, job: &Job, depot: &mut D, out: &mut
         (record { files = D.files depot.new; fetch_faults = D.fetch_faults depot.new; store_faults = D.store_faults depot.new; denied = D.denied depot.new; written = S.written out.new; faults = S.faults out.new }) }
 {
     match fetch_mesh(alloc, depot, job.mesh, job.rounds) {
-        Ok(mut mesh) => run_mesh(alloc, depot, out, job, &mut mesh),
+        Ok(mut fetched) => run_mesh(alloc, depot, out, job, &mut fetched),
         Err(Unread::ReadFault) => end_read_fault(alloc, out, job.mesh),
         Err(Unread::Refused(refusal)) => end_refused(alloc, out, refusal),
         Err(Unread::Memory) => Status::Memory,

@@ -4,7 +4,7 @@ ghost use Rattle.std.specs.Option.{option_map};
 ghost use Rattle.size_marks.specs.Field.{is_size};
 ghost use Rattle.meshadapt.specs.Words.{after_flag, in_range, job_of, number_in, number_of, value_of};
 
-use msh_read::natural;
+use ma_text::magnitude;
 
 /// What the words ask for.
 #[derive(Clone, Copy, Debug)]
@@ -37,9 +37,9 @@ fn number_in(low: u32, high: u32, word: &str) -> Option<u32>
     ensures value { result ≡ number_in low high word.now }
     ensures range { IfSome result (λ n. (low ≤ n) × (n ≤ high)) }
 {
-    match natural(word.as_bytes()) {
-        Some(value) => in_range(low, high, value),
-        None => None,
+    match magnitude(word.as_bytes()) {
+        Ok(value) => in_range(low, high, value),
+        Err(_) => None,
     }
 }
 

@@ -1,7 +1,4 @@
-pub mod Cuts
-pub mod Digits
+pub mod Dimensions
 pub mod Each
-pub mod Entries
-pub mod NodeLines
-pub mod TetLines
-pub mod Soundness
+pub mod ElementNumbers
+pub mod NameOrder

@@ -1,9 +1,11 @@
 pub mod Answer
-pub mod Digits
-pub mod Form
-pub mod Number
-pub mod Pieces
+pub mod ElementLines
+pub mod Front
+pub mod GroupNames
+pub mod Lines
+pub mod NameLines
+pub mod NodeLines
 pub mod Raw
 pub mod Reading
+pub mod Sections
 pub mod Steps
-pub mod Tetrahedra

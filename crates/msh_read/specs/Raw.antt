@@ -1,13 +1,17 @@
--- A mesh as it stands in a file.
+-- What a mesh file holds.
 use Rattle.std.specs.Prelude.{List}
 use Rattle.ma_geom.specs.Coordinates.{Coordinates}
+use Rattle.msh_read.specs.GroupNames.{GroupName}
+use Rattle.msh_read.specs.declared.raw.RawMark.{RawMark}
 use Rattle.msh_read.specs.declared.raw.RawMesh.{RawMesh}
 use Rattle.msh_read.specs.declared.raw.RawTet.{RawTet}
 
--- nodes and tetrahedra in file order
+-- nodes, tetrahedra and marks in the order of the file, and the set of names
 pub record Raw : Type 0 where
   pub nodes : List Coordinates
   pub tets : List RawTet
+  pub marks : List RawMark
+  pub names : List GroupName
 
 abbrev pub raw : RawMesh → Raw
-raw mesh = record { nodes = mesh.nodes.items; tets = mesh.tets.items }
+raw mesh = record { nodes = mesh.nodes.items; tets = mesh.tets.items; marks = mesh.marks.items; names = mesh.names.items }

@@ -1,33 +1,53 @@
--- What a file is read as.
-use Rattle.std.specs.Prelude.{◌≡◌, ℕ, ◌&&◌, if◌then◌else◌, List, [], ◌∷◌, Option, Some, None, Result, Ok, Err}
-use Rattle.std.specs.Option.{ok_or}
-use Rattle.std.specs.Cmp.Lexicographic.{slice_cmp}
-use Rattle.ma_geom.specs.Coordinates.{place_cmp}
-use Rattle.ma_cells.specs.Ascending.{are_distinct}
+-- What a file is read as: its lines are read one after another, and its fault is that of the first that can't be read.
+use Rattle.std.specs.Prelude.{ℕ, Bool, true, false, List, [], ◌∷◌, Result, Ok, Err}
+use Rattle.ma_cells.specs.Ascending.{ascending_of}
+use Rattle.ma_text.specs.Lines.{numbered_lines, end_number}
 use Rattle.msh_read.specs.declared.fault.MshFault.{MshFault}
-use Rattle.msh_read.specs.declared.fault.MshFault.TheVariants.{At, OtherForm, Memory}
-use Rattle.msh_read.specs.declared.fault.MshKind.TheVariants.{NoFormat}
-use Rattle.msh_read.specs.declared.raw.RawMesh.{RawMesh}
-use Rattle.msh_read.specs.Steps.{◌>>=◌}
-use Rattle.msh_read.specs.Raw.{Raw, raw}
-use Rattle.msh_read.specs.Form.{raw_of}
-use Rattle.msh_read.specs.Tetrahedra.{corner_sets, tets_of}
+use Rattle.msh_read.specs.declared.fault.MshFault.TheVariants.{At}
+use Rattle.msh_read.specs.declared.fault.MshKind.{MshKind}
+use Rattle.msh_read.specs.declared.fault.MshKind.TheVariants.{NoFormat, Truncated, NoNodes, NoElements}
+use Rattle.msh_read.specs.declared.stand.Stand.{Stand}
+use Rattle.msh_read.specs.declared.stand.Stand.TheVariants.{Outside}
+use Rattle.msh_read.specs.Front.{Front, nothing_read}
+use Rattle.msh_read.specs.GroupNames.{name_cmp}
+use Rattle.msh_read.specs.Raw.{Raw}
+use Rattle.msh_read.specs.Sections.{step}
+use Rattle.msh_read.specs.Steps.{◌>>=◌, ◌>>◌, check}
 
--- a file of the one form, in which no two nodes are at one place, no tetrahedron is flat and no two have the same corners
-unfoldable pub mesh_of : List ℕ → Option Raw
-mesh_of bytes = do
-  mesh ← raw_of bytes
-  tets ← tets_of mesh
-  if are_distinct place_cmp mesh.nodes && are_distinct (slice_cmp place_cmp) (corner_sets tets) then Some mesh else None
+-- what stands at a line, or the line's fault
+abbrev pub at_line : {A : Type 0} → ℕ → Result A MshKind → Result A MshFault
+at_line line (Ok x) = Ok x
+at_line line (Err kind) = Err (At line kind)
 
--- the mesh, or why there is none
+-- the front with all these lines behind it
+abbrev pub after : Front → List (ℕ × List ℕ) → Result Front MshFault
+after front [] = Ok front
+after front (line ∷ lines) = do
+  next ← at_line line.0 (step front line.1)
+  after next lines
+
+abbrev pub is_outside : Stand → Bool
+is_outside Outside = true
+is_outside stand = false
+
+-- where a file may end
+abbrev pub may_end : Front → Result (Unit {0}) MshKind
+may_end front = do
+  check Truncated (is_outside front.stand)
+  check NoFormat front.has_format
+  check NoNodes front.has_nodes
+  check NoElements front.has_elements
+
+-- what all lines say
+abbrev pub mesh_of : Front → Raw
+mesh_of front = record { nodes = front.nodes; tets = front.tets; marks = front.marks; names = ascending_of name_cmp front.names }
+
+unfoldable pub end_of : Front → Result Raw MshKind
+end_of front = do
+  may_end front
+  Ok (mesh_of front)
+
 unfoldable pub read_of : List ℕ → Result Raw MshFault
-read_of [] = Err (At 1 NoFormat)
-read_of (byte ∷ bytes) = ok_or (mesh_of (byte ∷ bytes)) OtherForm
-
--- What was answered is what is read. Want of memory says nothing.
-abbrev pub Reads : Result RawMesh MshFault → Result Raw MshFault → Type 0
-Reads (Ok mesh) read = read ≡ Ok (raw mesh)
-Reads (Err Memory) read = Unit {0}
-Reads (Err OtherForm) read = read ≡ Err OtherForm
-Reads (Err (At line kind)) read = read ≡ Err (At line kind)
+read_of bytes = do
+  front ← after nothing_read (numbered_lines bytes)
+  at_line (end_number bytes) (end_of front)

@@ -1,122 +1,195 @@
-// The section of the tetrahedra.
-ghost use Rattle.std.specs.Prelude.{◌≡◌, ◌∷◌, [], Some, None, if◌then◌else◌};
-ghost use Rattle.std.specs.Ordering.{nat_cmp};
-ghost use Rattle.ma_cells.specs.Ascending.{are_distinct};
+// Lines of `$Elements`.
+ghost use Rattle.std.specs.Prelude.{◌≡◌, ◌≢◌, ◌≤◌, ◌<◌, ◌^◌, IfSome, IfOk, length, true};
+ghost use Rattle.std.specs.List.{list_all};
 ghost use Rattle.msh_read.specs.Answer.{Gives};
-ghost use Rattle.msh_read.specs.Form.{tag_of, position_of, positions_of, tet_at, tet_from, tet_of, entry_of, entries_of, section_of, most_tets};
+ghost use Rattle.msh_read.specs.ElementLines.{are_different, element_at, element_by, element_from, element_of, entry_of, nodes_of_kind, numbers_of, position_of, positions_of, tag_of};
+ghost use Rattle.msh_read.specs.Lines.{is_tag};
+ghost use Rattle.msh_read.specs.Steps.{each};
 
-use crate::fault::MshFault;
-use crate::pieces::Pieces;
-use crate::raw::RawTet;
-use crate::reading::{count, next_line, numbers};
-use std::alloc::Global;
+use crate::entry::Entry;
+use crate::fault::{Fault, MshKind};
+use crate::raw::{RawMark, RawTet};
+use crate::words::{is_number, is_tag, natural, number};
+use arrayvec::ArrayVec;
+use indexmap::IndexSet;
+use ma_text::next_word;
 
-const MOST_TETS: u32 = 200_000;
-
-fn tag(value: i64) -> Option<i32>
-    ensures { result ≡ tag_of value }
+/// How many nodes an element of the type has.
+fn nodes_of_kind(kind: i64) -> Option<u64>
+    ensures value { result ≡ nodes_of_kind kind }
+    ensures bound { IfSome result (λ nodes. nodes ≤ 4) }
 {
-    i32::try_from(value).ok()
-}
-
-/// The position of the node with this number.
-fn position(nodes: u32, number: i64) -> Option<u32>
-    ensures { result ≡ position_of nodes number }
-{
-    let position = u32::try_from(number).ok()?.checked_sub(1)?;
-    (position < nodes).then_some(position)
-}
-
-fn are_different(a: u32, b: u32, c: u32, d: u32) -> bool
-    ensures { result ≡ are_distinct nat_cmp (a ∷ b ∷ c ∷ d ∷ []) }
-{
-    a != b && a != c && a != d && b != c && b != d && c != d
-}
-
-/// The positions of the nodes with these numbers, which differ.
-#[tactic(auto, unfolding(crate::specs::Form::positions_of))]
-fn positions(nodes: u32, a: i64, b: i64, c: i64, d: i64) -> Option<[u32; 4]>
-    ensures { result ≡ positions_of nodes (a ∷ b ∷ c ∷ d ∷ []) }
-{
-    let a = position(nodes, a)?;
-    let b = position(nodes, b)?;
-    let c = position(nodes, c)?;
-    let d = position(nodes, d)?;
-    if are_different(a, b, c, d) {
-        Some([a, b, c, d])
-    } else {
-        None
-    }
-}
-
-#[tactic(auto, unfolding(crate::specs::Form::tet_at))]
-fn tet(nodes: u32, phys: i64, elem: i64, a: i64, b: i64, c: i64, d: i64) -> Option<RawTet>
-    ensures { result ≡ tet_at nodes phys elem (a ∷ b ∷ c ∷ d ∷ []) }
-{
-    let phys = tag(phys)?;
-    let elem = tag(elem)?;
-    let at = positions(nodes, a, b, c, d)?;
-    Some(RawTet { at, phys, elem })
-}
-
-/// A tetrahedron by the numbers of its line.
-fn checked_tet(nodes: u32, number: u32, numbers: &[i64]) -> Option<RawTet>
-    ensures { result ≡ tet_from nodes number numbers.now }
-{
-    match numbers {
-        [i, kind, tags, phys, elem, a, b, c, d]
-            if *i == i64::from(number) && *kind == 4 && *tags == 2 => {
-            tet(nodes, *phys, *elem, *a, *b, *c, *d)
-        }
+    match kind {
+        15 => Some(1),
+        1 => Some(2),
+        2 => Some(3),
+        4 => Some(4),
         _ => None,
     }
 }
 
-/// The tetrahedron with this number, in a line of its own.
-#[tactic(auto, unfolding(crate::specs::Form::tet_of))]
-fn tet_in(alloc: Global, nodes: u32, number: u32, line: &[u8]) -> Result<RawTet, MshFault>
-    ensures { Gives (λ tet. tet) result (tet_of nodes number line.now) }
+fn are_different(numbers: &[i64]) -> bool
+    ensures { result ≡ are_different numbers.now }
 {
-    let numbers = numbers(alloc, line)?;
-    match checked_tet(nodes, number, &numbers) {
-        Some(tet) => Ok(tet),
-        None => Err(MshFault::OtherForm),
+    match numbers {
+        [] => true,
+        [first, rest @ ..] => !rest.contains(first) && are_different(rest),
     }
 }
 
-/// The tetrahedron with this number, in the next line.
-#[tactic(auto, unfolding(crate::specs::Form::entry_of))]
-fn next_tet(alloc: Global, nodes: u32, number: u32, lines: &mut Pieces) -> Result<RawTet, MshFault>
-    ensures { Gives (λ tet. (tet, lines.new)) result (entry_of (tet_of nodes) number lines.old) }
+/// The position of the node with this number.
+fn position(known: &IndexSet<i64>, number: i64) -> Result<u32, Fault>
+    ensures { Gives (λ at. at) result (position_of known.now.keys number) }
 {
-    let line = next_line(lines)?;
-    let tet = tet_in(alloc, nodes, number, line)?;
-    Ok(tet)
-}
-
-/// So many tetrahedra, in a line each.
-fn tet_lines(
-    alloc: Global,
-    nodes: u32,
-    count: u32,
-    lines: &mut Pieces,
-) -> Result<Vec<RawTet>, MshFault>
-    ensures { Gives (λ tets. (tets.items, lines.new)) result (entries_of (tet_of nodes) 1 count lines.old) }
-{
-    let mut tets = Vec::new(alloc);
-    for index in 0..count {
-        let tet = next_tet(alloc, nodes, index + 1, lines)?;
-        tets.push(tet)?;
+    match known.get_index_of(&number) {
+        Some(index) => match u32::try_from(index) {
+            Ok(position) => Ok(position),
+            // There are fewer nodes, since their numbers differ and are below 2^31.
+            Err(_) => Err(Fault::NoMemory),
+        },
+        None => Err(Fault::Kind(MshKind::NoSuchNode)),
     }
-    Ok(tets)
 }
 
-/// The tetrahedra of a file that has so many nodes.
-#[tactic(auto, unfolding(crate::specs::Form::section_of))]
-pub fn tets(alloc: Global, nodes: u32, lines: &mut Pieces) -> Result<Vec<RawTet>, MshFault>
-    ensures { Gives (λ tets. (tets.items, lines.new)) result (section_of most_tets (tet_of nodes) lines.old) }
+/// The position of each of at most four nodes.
+fn each_position(known: &IndexSet<i64>, nodes: &[i64]) -> Result<ArrayVec<u32, 4>, Fault>
+    requires { length nodes.now ≤ 4 }
+    ensures { Gives (λ at. at.items) result (each (position_of known.now.keys) nodes.now) }
 {
-    let count = count(alloc, MOST_TETS, lines)?;
-    let tets = tet_lines(alloc, nodes, count, lines)?;
-    Ok(tets)
+    let mut at = ArrayVec::new();
+    for node in nodes {
+        let position = position(known, *node)?;
+        at.push(position);
+    }
+    Ok(at)
+}
+
+/// The positions of at most four nodes, which differ.
+#[tactic(auto, unfolding(crate::specs::ElementLines::positions_of))]
+fn positions(known: &IndexSet<i64>, nodes: &[i64]) -> Result<ArrayVec<u32, 4>, Fault>
+    requires { length nodes.now ≤ 4 }
+    ensures { Gives (λ at. at.items) result (positions_of known.now.keys nodes.now) }
+{
+    let at = each_position(known, nodes)?;
+    if are_different(nodes) {
+        Ok(at)
+    } else {
+        Err(Fault::Kind(MshKind::BadLine))
+    }
+}
+
+fn are_tags(numbers: &[i64]) -> bool
+    ensures { result ≡ list_all is_tag numbers.now }
+{
+    numbers.iter().all(|number| is_tag(*number))
+}
+
+/// The tag at a position, which is 0 where there is none.
+fn tag(tags: &[i64], index: usize) -> i32
+    requires { list_all is_tag tags.now ≡ true }
+    ensures { result ≡ tag_of tags.now index }
+{
+    match tags.get(index) {
+        Some(tag) => *tag as i32,
+        None => 0,
+    }
+}
+
+fn four(at: &[u32]) -> [u32; 4]
+    requires { length at.now ≡ 4 }
+    ensures { result ≡ at.now }
+{
+    [at[0], at[1], at[2], at[3]]
+}
+
+fn fewer(at: &[u32]) -> ArrayVec<u32, 3>
+    requires { length at.now ≤ 3 }
+    ensures { result.items ≡ at.now }
+{
+    match ArrayVec::try_from(at) {
+        Ok(at) => at,
+        Err(_) => unreachable!(),
+    }
+}
+
+/// A tetrahedron or a mark at these positions of nodes.
+fn entry(tags: &[i64], at: &[u32]) -> Entry
+    requires tags_fit { list_all is_tag tags.now ≡ true }
+    requires few { length at.now ≤ 4 }
+    ensures { result ≡ entry_of tags.now at.now }
+{
+    let phys = tag(tags, 0);
+    let elem = tag(tags, 1);
+    if at.len() == 4 {
+        let at = four(at);
+        Entry::Tet(RawTet { at, phys, elem })
+    } else {
+        let at = fewer(at);
+        Entry::Mark(RawMark { at, phys, elem })
+    }
+}
+
+/// An element by its tags and its nodes' numbers.
+#[tactic(auto, unfolding(crate::specs::ElementLines::element_by))]
+fn element_by(known: &IndexSet<i64>, tags: &[i64], nodes: &[i64]) -> Result<Entry, Fault>
+    requires { length nodes.now ≤ 4 }
+    ensures { Gives (λ entry. entry) result (element_by known.now.keys tags.now nodes.now) }
+{
+    if !are_tags(tags) {
+        return Err(Fault::Kind(MshKind::BadLine));
+    }
+    let at = positions(known, nodes)?;
+    Ok(entry(tags, at.as_slice()))
+}
+
+/// An element by the type, the number of tags, and the numbers behind it.
+#[tactic(auto, unfolding(crate::specs::ElementLines::element_at))]
+fn element_at(known: &IndexSet<i64>, kind: i64, tags: u64, numbers: &[i64]) -> Result<Entry, Fault>
+    requires { tags < 2 ^ 63 }
+    ensures { Gives (λ entry. entry) result (element_at known.now.keys kind tags numbers.now) }
+{
+    let nodes = nodes_of_kind(kind).ok_or(MshKind::OtherKind(kind))?;
+    if numbers.len() as u64 != tags + nodes {
+        return Err(Fault::Kind(MshKind::BadLine));
+    }
+    let (tags, nodes) = numbers.split_at(tags as usize);
+    element_by(known, tags, nodes)
+}
+
+/// An element by the numbers of its line.
+fn element_from(known: &IndexSet<i64>, numbers: &[i64]) -> Result<Entry, Fault>
+    ensures { Gives (λ entry. entry) result (element_from known.now.keys numbers.now) }
+{
+    match numbers {
+        [number, kind, tags, rest @ ..] => {
+            if !is_number(*number) {
+                return Err(Fault::Kind(MshKind::BadLine));
+            }
+            let count = natural(*tags).ok_or(MshKind::BadLine)?;
+            element_at(known, *kind, count, rest)
+        }
+        _ => Err(Fault::Kind(MshKind::BadLine)),
+    }
+}
+
+/// Puts the numbers of a line in place of those that stood there.
+fn read_numbers(numbers: &mut Vec<i64>, line: &[u8]) -> Result<(), Fault>
+    ensures { Gives (λ _. numbers.new.items) result (numbers_of line.now) }
+{
+    numbers.clear();
+    let mut rest = line;
+    while let Some(word) = next_word(&mut rest) {
+        let number = number(word)?;
+        numbers.push(number)?;
+    }
+    Ok(())
+}
+
+/// The element in a line. Its numbers are put into `numbers`.
+#[tactic(auto, unfolding(crate::specs::ElementLines::element_of))]
+pub fn element(known: &IndexSet<i64>, numbers: &mut Vec<i64>, line: &[u8]) -> Result<Entry, Fault>
+    ensures { Gives (λ entry. entry) result (element_of known.now.keys line.now) }
+{
+    read_numbers(numbers, line)?;
+    element_from(known, numbers.as_slice())
 }

@@ -1,0 +1,10 @@
+pub mod Tied
+pub mod Ranges
+pub mod Numbered
+pub mod Alone
+pub mod CellSets
+pub mod Marking
+pub mod Whole
+pub mod InRange
+pub mod Bridge
+pub mod Apart

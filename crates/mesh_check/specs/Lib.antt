@@ -1,0 +1,10 @@
+pub mod Places
+pub mod Pairs
+pub mod Lone
+pub mod Marks
+pub mod Accepted
+pub mod Answer
+pub mod Ties
+pub mod Solids
+pub mod CellsOf
+pub mod FoundMarks

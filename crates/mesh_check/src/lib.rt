@@ -1,0 +1,17 @@
+//! Accepts a mesh that was read, or says what is wrong with it.
+#![tactic(auto)]
+
+mod acceptance;
+mod cells;
+mod fault;
+mod lone;
+mod marks;
+mod pairs;
+mod places;
+mod solids;
+
+pub use acceptance::accept;
+pub use fault::MeshFault;
+
+#[cfg(test)]
+mod tests;

@@ -1,5 +1,0 @@
-use Rattle.std.proofs.Common.{◌≡◌, flat_map, take}
-use Rattle.meshadapt.proofs.writer.nodes.Given as goal
-
-abbrev pub invariant-loop-tet : goal.invariant-loop-tet
-invariant-loop-tet l = l.corners.items ≡ flat_map (λ t. t.corners) (take l.tet-index l.tets)

@@ -1,0 +1,44 @@
+-- Lines of '$Nodes': 'NUMBER X Y Z'.
+use Rattle.std.specs.Prelude.{ℕ, Bool, not, nat_le, if◌then◌else◌, ℤ, unsigned_abs, List, Result, Ok, Err}
+use Rattle.std.specs.List.{list_any}
+use Rattle.std.specs.Ordering.{int_eq}
+use Rattle.ma_geom.specs.Coordinates.{Coordinates, limit}
+use Rattle.ma_text.specs.declared.number.NumberFault.{NumberFault}
+use Rattle.ma_text.specs.declared.number.NumberFault.TheVariants.{Empty, NotWhole as NoWhole, TooBig}
+use Rattle.ma_text.specs.Numbers.{whole_of}
+use Rattle.ma_text.specs.Words.{words_of}
+use Rattle.msh_read.specs.declared.fault.MshKind.{MshKind}
+use Rattle.msh_read.specs.declared.fault.MshKind.TheVariants.{BadLine, NodeTwice, NotWhole, OutOfRange}
+use Rattle.msh_read.specs.Lines.{four_of, number_of, is_number}
+use Rattle.msh_read.specs.Steps.{◌>>=◌, ◌>>◌, check, or_fault}
+
+-- a coordinate is at most 2^30 in absolute value
+abbrev pub in_range : Result ℤ NumberFault → Result ℤ MshKind
+in_range (Ok value) = if nat_le (unsigned_abs value) limit then Ok value else Err OutOfRange
+in_range (Err TooBig) = Err OutOfRange
+in_range (Err NoWhole) = Err NotWhole
+in_range (Err Empty) = Err NotWhole
+
+unfoldable pub coordinate_of : List ℕ → Result ℤ MshKind
+coordinate_of word = in_range (whole_of word)
+
+unfoldable pub place_of : List ℕ → List ℕ → List ℕ → Result Coordinates MshKind
+place_of first second third = do
+  x ← coordinate_of first
+  y ← coordinate_of second
+  z ← coordinate_of third
+  Ok (record { x = x; y = y; z = z })
+
+-- whether the number is among those that were used before
+abbrev pub is_used : List ℤ → ℤ → Bool
+is_used used number = list_any (int_eq number) used
+
+-- a node's number and its place
+unfoldable pub node_of : List ℤ → List ℕ → Result (ℤ × Coordinates) MshKind
+node_of used line = do
+  words ← or_fault BadLine (four_of (words_of line))
+  number ← number_of words.0
+  check BadLine (is_number number)
+  check NodeTwice (not (is_used used number))
+  place ← place_of words.1 words.2 words.3
+  Ok (number, place)

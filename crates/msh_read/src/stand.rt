@@ -1,0 +1,25 @@
+// Where a line stands in a file.
+
+/// A section that has a count and so many entries.
+#[derive(Clone, Copy, Debug, PartialEq, Eq)]
+pub enum Section {
+    Names,
+    Nodes,
+    Elements,
+}
+
+#[derive(Clone, Copy, Debug, PartialEq, Eq)]
+pub enum Stand {
+    /// Outside of sections.
+    Outside,
+    /// In a section that is skipped.
+    Skipped,
+    /// At the line of the format.
+    Format,
+    /// Behind the line of the format.
+    FormatEnd,
+    /// At a section's count.
+    Count(Section),
+    /// At so many entries of a section, and its end.
+    Entries(Section, u64),
+}

@@ -1,0 +1,16 @@
+pub mod ElementSectionBack
+pub mod ElementsBack
+pub mod EntriesBack
+pub mod Few
+pub mod Holding
+pub mod LinesBack
+pub mod MeshBack
+pub mod NodesBack
+pub mod Numbering
+pub mod NumbersBack
+pub mod RunsBack
+pub mod SectionsBack
+pub mod Sets
+pub mod TextBack
+pub mod TextLines
+pub mod WordsBack

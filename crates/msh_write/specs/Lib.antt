@@ -1,0 +1,4 @@
+pub mod Holders
+pub mod PartText
+pub mod ReadsBack
+pub mod Text

@@ -1,0 +1,20 @@
+//! Writes meshes, and what parts see of meshes, as text.
+#![tactic(auto)]
+
+mod elements;
+mod holders;
+pub mod laws;
+mod lines;
+mod members;
+mod nodes;
+mod part;
+mod union;
+mod words;
+
+pub use elements::is_tagged;
+pub use nodes::node_count;
+pub use part::write_part;
+pub use union::write_union;
+
+#[cfg(test)]
+mod tests;
