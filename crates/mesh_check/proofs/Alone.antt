@@ -122,7 +122,7 @@ module _ {K : Type 0} {R : K → K → Ordering} (o : IsTotalOrder R) where
       alone-is xs (λ _. 0) None xs (λ q. let e : times R q xs ≡ 0 + times R q xs = omega arith in e) (λ _ _. refl) (everywhere xs) (ordered xs s)
       ∙ filter-by _ _ (λ x. ap (λ n. eqb n 1) (times-is R x xs)) xs
 
-  any-filter : (p q : K → Bool) (xs : List K) → list_any p (filter q xs) ≡ list_any (λ x. q x && p x) xs
+  pub any-filter : (p q : K → Bool) (xs : List K) → list_any p (filter q xs) ≡ list_any (λ x. q x && p x) xs
   any-filter p q [] = refl
   any-filter p q (x ∷ xs) =
       elim (q x) as (λ b. list_any p (cond b (x ∷ filter q xs) (filter q xs)) ≡ ((b && p x) || list_any (λ y. q y && p y) xs)) [

@@ -138,7 +138,7 @@ cell_on-corners (a ∷ b ∷ []) cell e = let is : Seg (a ∷ b ∷ []) ≡ cell
 cell_on-corners (a ∷ b ∷ c ∷ []) cell e = let is : Tri (a ∷ b ∷ c ∷ []) ≡ cell = cc in ap corners_of (sym is)
 cell_on-corners (a ∷ b ∷ c ∷ d ∷ xs) cell e = absurd cc
 
-cell_of-corners : (places : List Coordinates) (cell : Cell) → cell_of places ≡ Some cell → corners_of cell ≡ ascending_of place_cmp places
+pub cell_of-corners : (places : List Coordinates) (cell : Cell) → cell_of places ≡ Some cell → corners_of cell ≡ ascending_of place_cmp places
 cell_of-corners places cell e =
     elim (are_distinct place_cmp places) as (λ b. cond b (cell_on (ascending_of place_cmp places)) None ≡ Some cell → corners_of cell ≡ ascending_of place_cmp places) [
       | true ↦ λ k. cell_on-corners (ascending_of place_cmp places) cell k

@@ -8,3 +8,6 @@ pub mod Whole
 pub mod InRange
 pub mod Bridge
 pub mod Apart
+pub mod FaceCounts
+pub mod MarksOn
+pub mod Sound

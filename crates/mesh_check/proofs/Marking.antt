@@ -23,11 +23,11 @@ use Rattle.mesh_check.specs.Marks.{mark_on, outer_marks, side_cmp, sides_of}
 use Rattle.mesh_check.specs.FoundMarks.{kept_mark, moved_mark}
 
 -- whether there is an item that passes
-abbrev passes : {Y : Type 0} → (Y → Bool) → Option Y → Bool
+abbrev pub passes : {Y : Type 0} → (Y → Bool) → Option Y → Bool
 passes p None = false
 passes p (Some y) = p y
 
-any-filter_map : {X Y : Type 0} (p : Y → Bool) (h : X → Option Y) (xs : List X) → list_any p (filter_map h xs) ≡ list_any (λ x. passes p (h x)) xs
+pub any-filter_map : {X Y : Type 0} (p : Y → Bool) (h : X → Option Y) (xs : List X) → list_any p (filter_map h xs) ≡ list_any (λ x. passes p (h x)) xs
 any-filter_map p h [] = refl
 any-filter_map p h (x ∷ xs) =
     elim (h x) as (λ o. list_any p (cons_option o (filter_map h xs)) ≡ (passes p o || list_any (λ y. passes p (h y)) xs)) [

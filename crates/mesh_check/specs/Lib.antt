@@ -8,3 +8,4 @@ pub mod Ties
 pub mod Solids
 pub mod CellsOf
 pub mod FoundMarks
+pub mod Sound

@@ -9,6 +9,7 @@ ghost use Rattle.msh_read.specs.Raw.{raw};
 ghost use Rattle.mesh_check.specs.Accepted.{accepted_of, apart};
 ghost use Rattle.mesh_check.specs.Answer.{Answers};
 ghost use Rattle.mesh_check.specs.FoundMarks.{found_of};
+ghost use Rattle.mesh_check.specs.Sound.{IsSound};
 
 use crate::fault::MeshFault;
 use crate::marks::marks;
@@ -38,6 +39,7 @@ fn found(alloc: Global, mesh: &RawMesh, shift: u32) -> Result<Mesh, MeshFault>
     ensures value { Answers (λ mesh. mesh) result (found_of (raw mesh.now) shift) }
     ensures solid { IfOk result (λ mesh. list_all (λ tet. are_corners tet.corners) mesh.tets ≡ true) }
     ensures once { IfOk result (λ mesh. first_overlap_of mesh.tets ≡ None) }
+    ensures sound { IfOk result (λ mesh. IsSound mesh) }
 {
     let tets = tets(alloc, mesh, shift)?;
     apart(alloc, tets.as_slice())?;
@@ -57,6 +59,7 @@ pub fn accept(alloc: Global, mesh: &RawMesh, shift: u32) -> Result<Mesh, MeshFau
     ensures solid { IfOk result (λ mesh. list_all (λ tet. are_corners tet.corners) mesh.tets ≡ true) }
     // No rational point is within two of its tetrahedra.
     ensures once { IfOk result (λ mesh. (p : Rational) → whole_cover p mesh.tets ≤ 1) }
+    ensures sound { IfOk result (λ mesh. IsSound mesh) }
 {
     found(alloc, mesh, shift)
 }

@@ -4,6 +4,7 @@ use Rattle.overlap_check.specs.Overlap.{first_overlap_of}
 use Rattle.msh_read.specs.Raw.{raw}
 use Rattle.mesh_check.specs.Accepted.{apart}
 use Rattle.mesh_check.proofs.Apart.{none_overlaps}
+use Rattle.mesh_check.proofs.Sound.{sound-is}
 use Rattle.mesh_check.proofs.Whole.{found-is}
 use Rattle.mesh_check.proofs.acceptance.found.Goals as goal
 
@@ -16,3 +17,8 @@ pub returns-clause-once : goal.returns-clause-once
 returns-clause-once c =
     let mesh = c.new.ensures in
     ap (λ (m : MarkedMesh). first_overlap_of m.tets) mesh ∙ ap first_overlap_of (sym c.as_slice.ensures.value) ∙ none_overlaps (first_overlap_of c.as_slice.result.now) c.in_ok-apart.ensures
+
+pub returns-clause-sound : goal.returns-clause-sound
+returns-clause-sound c =
+    let none = ap first_overlap_of (sym c.as_slice.ensures.value) ∙ none_overlaps (first_overlap_of c.as_slice.result.now) c.in_ok-apart.ensures in
+    sound-is (raw c.args.mesh.now) c.args.shift c.in_ok-tets.tets.items c.as_slice-2.result.now _ _ c.new.result c.in_ok-tets.ensures.solid none c.as_slice-2.ensures.value c.in_ok-marks.ensures.marks c.new.ensures
