@@ -1,52 +1,10 @@
 #!/usr/bin/env bash
-# Measures wall time and peak memory of the built program on a thin file of 200,000 tetrahedra, and on one of half as many.
+# Measures the built program on a file of 200,000 tetrahedra, and on one of half as many, with no round.
 set -eu
-here="$(cd "$(dirname "${BASH_SOURCE[0]}")/.." && pwd)"
-program="$here/crates/meshadapt/out/meshadapt"
-[ -x "$program" ] || "$here/meshadapt" >/dev/null || true
-folder="$(mktemp -d)"
-trap 'rm -rf "$folder"' EXIT
-
-# A box of $1 x $2 x $3 cubes of side 8, each cut into five tetrahedra that meet those of its neighbours in whole faces.
-thin_file() {
-    awk -v a="$1" -v b="$2" -v c="$3" '
-    function node(x, y, z) { return (x * (b + 1) + y) * (c + 1) + z + 1 }
-    function tet(p, q, r, s) { number++; print number, 4, 2, 1, 1, p, q, r, s }
-    BEGIN {
-        print "$MeshFormat\n2.2 0 8\n$EndMeshFormat\n$Nodes"
-        print (a + 1) * (b + 1) * (c + 1)
-        for (x = 0; x <= a; x++) for (y = 0; y <= b; y++) for (z = 0; z <= c; z++) print node(x, y, z), 8 * x, 8 * y, 8 * z
-        print "$EndNodes\n$Elements"
-        print 5 * a * b * c
-        for (x = 0; x < a; x++) for (y = 0; y < b; y++) for (z = 0; z < c; z++) {
-            for (i = 0; i < 8; i++) {
-                u = int(i / 4); v = int(i / 2) % 2; w = i % 2
-                # Every other cube is mirrored.
-                if ((x + y + z) % 2) u = 1 - u
-                corner[i] = node(x + u, y + v, z + w)
-            }
-            tet(corner[0], corner[4], corner[2], corner[1])
-            tet(corner[6], corner[2], corner[4], corner[7])
-            tet(corner[5], corner[4], corner[1], corner[7])
-            tet(corner[3], corner[1], corner[2], corner[7])
-            tet(corner[1], corner[2], corner[4], corner[7])
-        }
-        print "$EndElements"
-    }'
-}
-
-thin_file 40 25 20 >"$folder/half.msh"
-thin_file 40 25 40 >"$folder/whole.msh"
-cd "$folder"
+. "$(dirname "${BASH_SOURCE[0]}")/measure.sh"
+awk -v a=40 -v b=25 -v c=20 -v further=0 -f "$here/bench/box.awk" >half.msh
+awk -v a=40 -v b=25 -v c=40 -v further=0 -f "$here/bench/box.awk" >whole.msh
 for name in half whole; do
     echo "$name: $(wc -c <"$name.msh") bytes"
-    python3 - "$program" "$name" <<'END'
-import os, resource, sys, time
-program, name = sys.argv[1:3]
-words = f"--plain --mesh {name}.msh --uniform 4 --rounds 0 --collapse 0 --swap 0 --out {name}.out".split()
-start = time.perf_counter()
-pid = os.spawnv(os.P_NOWAIT, program, [program, *words])
-_, status, usage = os.wait4(pid, 0)
-print(f"status {os.waitstatus_to_exitcode(status)}, {time.perf_counter() - start:.2f} s, {usage.ru_maxrss // 1024} MB", flush=True)
-END
+    measure "$name.msh" 64 0
 done

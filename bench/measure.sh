@@ -1,0 +1,20 @@
+# Sourced by the benches: builds the program if it isn't built, goes to a folder that is removed at the end, and defines `measure`.
+here="$(cd "$(dirname "${BASH_SOURCE[0]}")/.." && pwd)"
+program="$here/crates/meshadapt/out/meshadapt"
+[ -x "$program" ] || "$here/meshadapt" >/dev/null || true
+folder="$(mktemp -d)"
+trap 'rm -rf "$folder"' EXIT
+cd "$folder"
+
+# Runs the program on the mesh file $1 with the size $2 and $3 rounds, and tells its status, wall time and peak memory.
+measure() {
+    python3 - "$program" "$@" <<'END'
+import os, sys, time
+program, mesh, size, rounds = sys.argv[1:5]
+words = f"--plain --mesh {mesh} --uniform {size} --rounds {rounds} --collapse 0 --swap 0 --out stored".split()
+start = time.perf_counter()
+pid = os.spawnv(os.P_NOWAIT, program, [program, *words])
+_, status, usage = os.wait4(pid, 0)
+print(f"status {os.waitstatus_to_exitcode(status)}, {time.perf_counter() - start:.2f} s, {usage.ru_maxrss // 1024} MB", flush=True)
+END
+}
