@@ -59,9 +59,6 @@ done_line = ended_line (codes "done: plain")
 abbrev pub usage_line : List ℕ
 usage_line = ended_line (codes "usage")
 
-abbrev pub memory_line : List ℕ
-memory_line = ended_line (codes "memory")
-
 -- what is stored
 abbrev pub mesh_name : Job → List ℕ
 mesh_name job = job.out ++ codes ".msh"
