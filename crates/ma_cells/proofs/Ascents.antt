@@ -15,6 +15,7 @@ use Rattle.std.proofs.lemmas.List.Kept.{Contains-dedup, Contains-from_dedup, IsS
 use Rattle.std.proofs.lemmas.List.Sorted.{Contains-permutation, IsPermutation-sym}
 use Rattle.std.proofs.lemmas.Map.Views.{Contains-from_any, list_any-from_Contains}
 use Rattle.ma_cells.specs.Ascending.{put, ascending_of, has, are_ascending, are_distinct}
+use Rattle.ma_cells.proofs.SetItems.{all-put}
 
 eqb-suc : (m n : ℕ) → eqb (suc m) (suc n) ≡ eqb m n
 eqb-suc m n = grind (arith, nat_tests)
@@ -72,16 +73,6 @@ module _ {K : Type 0} {R : K → K → Ordering} (o : IsTotalOrder R) where
   has-ascending_of q [] = refl
   has-ascending_of q (x ∷ xs) = has-put q x (ascending_of R xs) ∙ ap (λ b. eq_by_cmp R q x || b) (has-ascending_of q xs)
 
-  -- what is below x and the items is below them once x is put in
-  all_below-put : (y x : K) (zs : List K) → R y x ≡ Less → AllByRecursion (λ z. R y z ≡ Less) zs → AllByRecursion (λ z. R y z ≡ Less) (put R x zs)
-  all_below-put y x [] e h = (e, tt)
-  all_below-put y x (z ∷ zs) e h =
-      elim (R x z) as (λ r. AllByRecursion (λ w. R y w ≡ Less) (cond (is_lt r) (x ∷ z ∷ zs) (cond (is_eq r) (z ∷ zs) (z ∷ put R x zs)))) [
-        | Less ↦ (e, h)
-        | Equal ↦ h
-        | Greater ↦ (h.0, all_below-put y x zs e h.1)
-      ]
-
   sorted-put : (x : K) (ys : List K) → IsStrictlySortedBy R ys → IsStrictlySortedBy R (put R x ys)
   unfolding IsStrictlySortedBy
   sorted-put x [] s = (tt, tt)
@@ -89,7 +80,7 @@ module _ {K : Type 0} {R : K → K → Ordering} (o : IsTotalOrder R) where
       elim (R x y) as (λ r. R x y ≡ r → IsStrictlySortedBy R (cond (is_lt r) (x ∷ y ∷ ys) (cond (is_eq r) (y ∷ ys) (y ∷ put R x ys)))) [
         | Less ↦ λ e. ((e, all_below x y ys e s.0), s)
         | Equal ↦ λ e. s
-        | Greater ↦ λ e. (all_below-put y x ys (less_turned x y e) s.0, sorted-put x ys s.1)
+        | Greater ↦ λ e. (all-put R (λ z. R y z ≡ Less) x ys (less_turned x y e) s.0, sorted-put x ys s.1)
       ] refl
 
   pub sorted-ascending_of : (xs : List K) → IsStrictlySortedBy R (ascending_of R xs)
@@ -97,7 +88,8 @@ module _ {K : Type 0} {R : K → K → Ordering} (o : IsTotalOrder R) where
   sorted-ascending_of [] = tt
   sorted-ascending_of (x ∷ xs) = sorted-put x (ascending_of R xs) (sorted-ascending_of xs)
 
-  has-head : (x : K) (xs : List K) → has R x (x ∷ xs) ≡ true
+  -- an item is among the items that it heads
+  pub has-head : (x : K) (xs : List K) → has R x (x ∷ xs) ≡ true
   has-head x xs = ap (λ r. is_eq r || has R x xs) (tied_itself o x)
 
   -- items that tie share a head: what follows has the same members

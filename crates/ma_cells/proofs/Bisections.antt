@@ -1,15 +1,15 @@
 -- What bisecting a cell gives.
 use Rattle.std.proofs.Common.{◌≡◌, ℕ, Bool, true, false, cond, not, ◌&&◌, ◌||◌, List, [], ◌∷◌, length, eqb, refl, sym, ap, ◌∙◌, arith}
 use Rattle.std.specs.Prelude.{map, ◌==◌}
-use Rattle.std.specs.Cmp.{Equal-is, eq_by_cmp_equiv, tied_itself}
+use Rattle.std.specs.Cmp.{eq_by_cmp_equiv}
 use Rattle.std.specs.List.{list_all}
-use Rattle.std.proofs.lemmas.Bool.{false≢true}
+use Rattle.std.proofs.lemmas.Bool.{and_parts, false≢true, or_parts}
 use Rattle.std.proofs.lemmas.Bool.Decides.{nat_tests}
 use Rattle.std.proofs.lemmas.List.{length-map}
 use Rattle.std.proofs.lemmas.List.Folds.{list_all-map}
-use Rattle.std.specs.Ordering.{eq_by_cmp, is_eq}
+use Rattle.std.specs.Ordering.{eq_by_cmp}
 use Rattle.ma_geom.specs.Coordinates.{Coordinates, place_cmp}
-use Rattle.ma_geom.proofs.PlaceOrder.{place_cmp_total, place_cmp-IsAntisymmetric}
+use Rattle.ma_geom.proofs.PlaceOrder.{place_cmp_total}
 use Rattle.ma_cells.specs.Ascending.{are_ascending, are_distinct, ascending_of, has}
 use Rattle.ma_cells.specs.Bisection.{bisect, bisect_cell, bisect_mark, bisect_tet, replaced}
 use Rattle.ma_cells.specs.Cells.{CellMark, corners_of, is_cell}
@@ -19,6 +19,7 @@ use Rattle.ma_cells.specs.declared.cell.Cell.{Cell}
 use Rattle.ma_cells.specs.declared.cell.Cell.TheVariants.{Point, Seg, Tri}
 use Rattle.ma_cells.proofs.Ascents.{ascending_from_strict, has-ascending_of, length-ascending_of, sorted-ascending_of}
 use Rattle.ma_cells.proofs.Cornered.{distinct-ascending}
+use Rattle.ma_cells.proofs.Permutations.{alone, same, tied}
 
 -- a cell without the edge stays
 pub bisect-without : (a b m : Coordinates) (corners : List Coordinates) → holds_all corners (a ∷ b ∷ []) ≡ false → bisect a b m corners ≡ corners ∷ []
@@ -46,10 +47,6 @@ bisect-ascends a b m corners rises =
 as_many : (l m n : ℕ) → eqb l m ≡ true → m ≡ n → l ≡ n
 as_many l m n e f = grind (arith, nat_tests)
 
-apart_first : (h d : Bool) → (not h && d) ≡ true → (h ≡ false) × (d ≡ true)
-apart_first true d e = absurd (false≢true e)
-apart_first false d e = (refl, e)
-
 -- the step of `has-places` at the corner a, and at another
 at_corner : (s t k g : Bool) → (s || ((s && t) || (k && not g))) ≡ ((s && true) || ((g || k) && not g))
 at_corner true t k g = refl
@@ -67,17 +64,14 @@ none_of : (s g : Bool) → false ≡ ((s && false) || (false && not g))
 none_of true g = refl
 none_of false g = refl
 
-equal : (p q : Coordinates) → eq_by_cmp place_cmp p q ≡ true → p ≡ q
-equal p q t = place_cmp-IsAntisymmetric p q ((Equal-is (place_cmp p q)).0 t)
-
 -- what is p isn't a, where p isn't
 apart : (q a p : Coordinates) → eq_by_cmp place_cmp a p ≡ false → eq_by_cmp place_cmp q p ≡ true → eq_by_cmp place_cmp q a ≡ false
 apart q a p other here =
     elim (eq_by_cmp place_cmp q a) as (λ g. eq_by_cmp place_cmp q a ≡ g → g ≡ false) [
       | true ↦ λ there.
-          let at_p : q ≡ p = equal q p here in
-          let at_a : q ≡ a = equal q a there in
-          let itself : eq_by_cmp place_cmp q q ≡ true = ap is_eq (tied_itself place_cmp_total q) in
+          let at_p : q ≡ p = same q p here in
+          let at_a : q ≡ a = same q a there in
+          let itself : eq_by_cmp place_cmp q q ≡ true = tied q in
           cc
       | false ↦ λ _. refl
     ] refl
@@ -95,7 +89,7 @@ has-places q a m (p ∷ ps) =
     elim (eq_by_cmp place_cmp a p) as (λ d. eq_by_cmp place_cmp a p ≡ d
     → (eq_by_cmp place_cmp q (cond d m p) || has place_cmp q (map (λ r. cond (eq_by_cmp place_cmp a r) m r) ps)) ≡ ((s && (d || t)) || ((eq_by_cmp place_cmp q p || k) && not g))) [
       | true ↦ λ here.
-          ap (λ b. s || b) more ∙ at_corner s t k g ∙ ap (λ r. (s && true) || ((eq_by_cmp place_cmp q r || k) && not g)) (equal a p here)
+          ap (λ b. s || b) more ∙ at_corner s t k g ∙ ap (λ r. (s && true) || ((eq_by_cmp place_cmp q r || k) && not g)) (same a p here)
       | false ↦ λ other. ap (λ b. eq_by_cmp place_cmp q p || b) more ∙ at_other (s && t) k (eq_by_cmp place_cmp q p) g (apart q a p other)
     ] refl
 
@@ -105,10 +99,6 @@ pub has-replaced : (q a m : Coordinates) (corners : List Coordinates)
     ≡ ((eq_by_cmp place_cmp q m && has place_cmp a corners) || (has place_cmp q corners && not (eq_by_cmp place_cmp q a)))
 has-replaced q a m corners = has-ascending_of place_cmp_total q (map (λ p. cond (eq_by_cmp place_cmp a p) m p) corners) ∙ has-places q a m corners
 
-either : (b c : Bool) → (b || c) ≡ false → (b ≡ false) × (c ≡ false)
-either true c h = absurd (false≢true (sym h))
-either false c h = (refl, h)
-
 turned : (p q : Coordinates) → eq_by_cmp place_cmp p q ≡ eq_by_cmp place_cmp q p
 turned p q = (eq_by_cmp_equiv place_cmp_total).symm p q
 
@@ -116,10 +106,10 @@ turned p q = (eq_by_cmp_equiv place_cmp_total).symm p q
 stays_apart : (a m x : Coordinates) (ps : List Coordinates) → has place_cmp x ps ≡ false → has place_cmp m (x ∷ ps) ≡ false
     → has place_cmp (cond (eq_by_cmp place_cmp a x) m x) (map (λ p. cond (eq_by_cmp place_cmp a p) m p) ps) ≡ false
 stays_apart a m x ps alone new =
-    let other = either (eq_by_cmp place_cmp m x) (has place_cmp m ps) new in
+    let other = or_parts (eq_by_cmp place_cmp m x) (has place_cmp m ps) new in
     elim (eq_by_cmp place_cmp a x) as (λ d. eq_by_cmp place_cmp a x ≡ d → has place_cmp (cond d m x) (map (λ p. cond (eq_by_cmp place_cmp a p) m p) ps) ≡ false) [
       | true ↦ λ here.
-          let gone : has place_cmp a ps ≡ false = ap (λ r. has place_cmp r ps) (equal a x here) ∙ alone in
+          let gone : has place_cmp a ps ≡ false = ap (λ r. has place_cmp r ps) (same a x here) ∙ alone in
           has-places m a m ps ∙ ap (λ b. (eq_by_cmp place_cmp m m && b) || (has place_cmp m ps && not (eq_by_cmp place_cmp m a))) gone
           ∙ ap (λ b. (eq_by_cmp place_cmp m m && false) || (b && not (eq_by_cmp place_cmp m a))) other.1
           ∙ sym (none_of (eq_by_cmp place_cmp m m) (eq_by_cmp place_cmp m a))
@@ -133,8 +123,8 @@ stay_distinct : (a m : Coordinates) (ps : List Coordinates) → are_distinct pla
     → are_distinct place_cmp (map (λ p. cond (eq_by_cmp place_cmp a p) m p) ps) ≡ true
 stay_distinct a m [] distinct new = refl
 stay_distinct a m (x ∷ ps) distinct new =
-    let first = apart_first (has place_cmp x ps) (are_distinct place_cmp ps) distinct in
-    rw (stays_apart a m x ps first.0 new) (stay_distinct a m ps first.1 (either (eq_by_cmp place_cmp m x) (has place_cmp m ps) new).1)
+    let first = alone (has place_cmp x ps) (are_distinct place_cmp ps) distinct in
+    rw (stays_apart a m x ps first.0 new) (stay_distinct a m ps first.1 (or_parts (eq_by_cmp place_cmp m x) (has place_cmp m ps) new).1)
 
 -- a half has as many corners, where m is no corner of the cell
 pub length-replaced : (a m : Coordinates) (corners : List Coordinates) → are_ascending place_cmp corners ≡ true → has place_cmp m corners ≡ false
@@ -145,15 +135,11 @@ length-replaced a m corners rises new =
     (length-ascending_of place_cmp_total places).1 ∙ stay_distinct a m corners (distinct-ascending corners rises) new in
     as_many (length (replaced a m corners)) (length places) (length corners) whole (length-map corners (λ p. cond (eq_by_cmp place_cmp a p) m p))
 
-both_parts : (b c : Bool) → (b && c) ≡ true → (b ≡ true) × (c ≡ true)
-both_parts true c h = (refl, h)
-both_parts false c h = absurd (false≢true h)
-
 -- a half of so many ascending corners has as many, and they ascend
 is_half : (n : ℕ) (a m : Coordinates) (corners : List Coordinates) → ((length corners == n) && are_ascending place_cmp corners) ≡ true → has place_cmp m corners ≡ false
     → ((length (replaced a m corners) == n) && are_ascending place_cmp (replaced a m corners)) ≡ true
 is_half n a m corners h new =
-    let parts = both_parts (length corners == n) (are_ascending place_cmp corners) h in
+    let parts = and_parts (length corners == n) (are_ascending place_cmp corners) h in
     let many : length (replaced a m corners) ≡ length corners = length-replaced a m corners parts.1 new in
     let kept : (length (replaced a m corners) == n) ≡ true = ap (λ k. k == n) many ∙ parts.0 in
     ap (λ t. t && are_ascending place_cmp (replaced a m corners)) kept ∙ replaced-ascends a m corners

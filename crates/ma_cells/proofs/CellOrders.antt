@@ -109,3 +109,7 @@ derived_cell_cmp (Tri s) (Tri t) = refl
 
 pub derived_mark_cmp : MarkOrder.ghosts.cmp ≡ mark_cmp
 derived_mark_cmp = λ i m n. ordering_then (derived_cell_cmp m.cell n.cell i) (ordering_then (int_cmp m.phys n.phys) (int_cmp m.elem n.elem))
+
+-- the same of the orders as functions
+pub derived_cells : CellOrder.ghosts.cmp ≡ cell_cmp
+derived_cells = λ i c d. derived_cell_cmp c d i

@@ -1,5 +1,5 @@
 -- The four corners of a tetrahedron, by their places and as a list.
-use Rattle.std.proofs.Common.{◌≡◌, true, false, not, ◌&&◌, List, [], ◌∷◌, length, get_or, eqb, Option, Some, None, refl, sym, subst, ◌∙◌, arith}
+use Rattle.std.proofs.Common.{◌≡◌, Bool, true, false, not, ◌&&◌, List, [], ◌∷◌, length, get_or, eqb, Option, Some, None, refl, sym, subst, ◌∙◌, arith}
 use Rattle.std.specs.Prelude.{ℤ, pos}
 use Rattle.std.proofs.lemmas.Bool.{false≢true}
 use Rattle.std.specs.List.Sorted.{IsPermutation, IsSorted}
@@ -15,6 +15,18 @@ use Rattle.ma_cells.proofs.Ascents.{ascending_from_distinct, ascending_of-IsPerm
 pub corners_rise : (places : List Coordinates) → are_corners places ≡ true → are_ascending place_cmp places ≡ true
 corners_rise places h =
     elim (are_ascending place_cmp places) as (λ b. (b && not (is_flat places)) ≡ true → b ≡ true) [ true ↦ λ _. refl | false ↦ λ k. absurd (false≢true k) ] h
+
+-- and they aren't flat
+pub corners_span : (places : List Coordinates) → are_corners places ≡ true → is_flat places ≡ false
+corners_span places h =
+    elim (is_flat places) as (λ b. (are_ascending place_cmp places && not b) ≡ true → b ≡ false) [
+      | true ↦ λ k. absurd (false≢true (sym (never (are_ascending place_cmp places)) ∙ k))
+      | false ↦ λ _. refl
+    ] h
+  where
+    never : (b : Bool) → (b && false) ≡ false
+    never true = refl
+    never false = refl
 
 -- a list of four by its places
 pub is_flat-four : (places : List Coordinates) (a b c d : Coordinates) → length places ≡ 4

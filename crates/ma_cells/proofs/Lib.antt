@@ -5,3 +5,10 @@ pub mod Choices
 pub mod Cornered
 pub mod Corners
 pub mod Equalities
+pub mod FourPlaces
+pub mod Permutations
+pub mod Pieces
+pub mod Searches
+pub mod CellLists
+pub mod Passing
+pub mod SetItems

@@ -3,6 +3,7 @@ use Rattle.std.specs.Prelude.{ℤ, Bool, true, ◌&&◌, ◌==◌, length, List,
 use Rattle.std.specs.declared.cmp.Ordering.{Ordering}
 use Rattle.std.specs.declared.cmp.Ordering.TheVariants.{Less, Greater}
 use Rattle.std.specs.Cmp.Lexicographic.{slice_cmp}
+use Rattle.std.specs.Option.{option_map}
 use Rattle.std.specs.Ordering.{int_cmp, ordering_then}
 use Rattle.ma_geom.specs.Coordinates.{Coordinates, place_cmp}
 use Rattle.ma_cells.specs.Ascending.{are_ascending, are_distinct, ascending_of}
@@ -48,6 +49,10 @@ pub record CellMark : Type 0 where
   pub cell : Cell
   pub phys : ℤ
   pub elem : ℤ
+
+-- the mark with this tag on the cell with these corners, if they are one to three and no two are equal
+abbrev pub mark_on : List Coordinates → ℤ → ℤ → Option CellMark
+mark_on corners phys elem = option_map (λ cell. record { cell = cell; phys = phys; elem = elem }) (cell_of corners)
 
 -- by cell, then phys, then elem
 abbrev pub mark_cmp : CellMark → CellMark → Ordering

@@ -5,3 +5,5 @@ pub mod Faces
 pub mod Meshes
 pub mod Views
 pub mod Bisection
+pub mod Grid
+pub mod Incidence

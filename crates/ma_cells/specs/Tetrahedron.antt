@@ -2,6 +2,7 @@
 use Rattle.std.specs.Prelude.{ℤ, Bool, not, ◌&&◌, if◌then◌else◌, List, Option, Some, None}
 use Rattle.std.specs.declared.cmp.Ordering.{Ordering}
 use Rattle.std.specs.Cmp.Lexicographic.{slice_cmp}
+use Rattle.std.specs.List.{list_all}
 use Rattle.std.specs.Ordering.{int_cmp, ordering_then}
 use Rattle.ma_geom.specs.Coordinates.{Coordinates, place_cmp}
 pub use Rattle.ma_geom.specs.Lines.{is_flat}
@@ -16,6 +17,10 @@ pub record Tetrahedron : Type 0 where
 -- whether these are the corners of a tetrahedron, as a tetrahedron keeps them
 abbrev pub are_corners : List Coordinates → Bool
 are_corners places = are_ascending place_cmp places && not (is_flat places)
+
+-- whether the corners of each are those of a tetrahedron: four that ascend and aren't flat
+abbrev pub are_tetrahedra : List Tetrahedron → Bool
+are_tetrahedra tets = list_all (λ tet. are_corners tet.corners) tets
 
 -- the tetrahedron with these corners, given in any order, unless it is flat
 abbrev pub tetrahedron_of : List Coordinates → ℤ → ℤ → Option Tetrahedron

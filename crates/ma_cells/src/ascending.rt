@@ -70,6 +70,13 @@ impl<T: Ord> Ascending<T> {
     {
         self.items.is_empty()
     }
+
+    /// Whether an item is in the set, in log n steps. Takes no memory.
+    pub fn contains(&self, item: &T) -> bool
+        ensures { result ≡ has T.cmp item.now self.now }
+    {
+        self.as_slice().binary_search(item).is_ok()
+    }
 }
 
 impl<T: Ord + Drop> Ascending<T> {

@@ -132,6 +132,37 @@ fn faces_and_edges_come_in_the_order_of_their_corners(rt: HostRuntime) -> Result
 }
 
 #[test]
+fn the_cells_of_a_tetrahedron_are_four_points_six_segments_and_four_triangles(
+    rt: HostRuntime,
+) -> Result<(), Fail> {
+    let (o, z, y, x) = (
+        place(0, 0, 0)?,
+        place(0, 0, 8)?,
+        place(0, 8, 0)?,
+        place(8, 0, 0)?,
+    );
+    let cells = tet([x, y, z, o], 0, 1)?.cells();
+    assert_eq!(rt; cells[3], Cell::Point(x));
+    assert_eq!(rt; cells[4], Cell::Seg([o, z]));
+    assert_eq!(rt; cells[9], Cell::Seg([y, x]));
+    assert_eq!(rt; cells[10], Cell::Tri([o, z, y]));
+    assert_eq!(rt; cells[13], Cell::Tri([z, y, x]));
+    Ok(())
+}
+
+#[test]
+fn a_set_contains_its_items_alone(rt: HostRuntime) -> Result<(), Fail> {
+    let set = Ascending::gather(vec![in rt.alloc(); 5, 2, 9, 2]?);
+    for item in [2, 5, 9] {
+        assert!(rt; set.contains(&item));
+    }
+    for item in [1, 3, 6, 10] {
+        assert!(rt; !set.contains(&item));
+    }
+    Ok(())
+}
+
+#[test]
 fn a_tetrahedron_holds_its_corners_alone(rt: HostRuntime) -> Result<(), Fail> {
     let (o, z, y, x) = (
         place(0, 0, 0)?,

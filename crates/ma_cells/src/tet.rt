@@ -2,11 +2,15 @@
 ghost use Rattle.std.specs.Prelude.{◌≡◌, pos, true};
 ghost use Rattle.std.specs.List.{list_all};
 ghost use Rattle.ma_geom.specs.Coordinates.{place_cmp};
-ghost use Rattle.ma_cells.specs.Ascending.{are_ascending};
+ghost use Rattle.ma_cells.specs.Ascending.{are_ascending, has};
+ghost use Rattle.ma_cells.specs.Cells.{cell_cmp, corners_of, is_cell};
+ghost use Rattle.ma_cells.specs.declared.cell.Cell.{Cell};
 ghost use Rattle.ma_cells.specs.Faces.{edges_of, faces_of, holds_all};
+ghost use Rattle.ma_cells.specs.Incidence.{cells_of};
 ghost use Rattle.ma_cells.specs.Tetrahedron.{are_corners, is_flat, tetrahedron_of};
 
 use crate::ascending::has_all;
+use crate::cell::Cell;
 use ma_geom::{Place, coplanar};
 use std::marker::Model;
 
@@ -98,6 +102,29 @@ fn pairs(corners: [Place; 4]) -> [[Place; 2]; 6]
     [[a, b], [a, c], [a, d], [b, c], [b, d], [c, d]]
 }
 
+/// The points, the segments and the triangles of these places, each in their order.
+fn cells(corners: [Place; 4]) -> [Cell; 14]
+    ensures { result ≡ cells_of corners }
+{
+    let [a, b, c, d] = corners;
+    [
+        Cell::Point(a),
+        Cell::Point(b),
+        Cell::Point(c),
+        Cell::Point(d),
+        Cell::Seg([a, b]),
+        Cell::Seg([a, c]),
+        Cell::Seg([a, d]),
+        Cell::Seg([b, c]),
+        Cell::Seg([b, d]),
+        Cell::Seg([c, d]),
+        Cell::Tri([a, b, c]),
+        Cell::Tri([a, b, d]),
+        Cell::Tri([a, c, d]),
+        Cell::Tri([b, c, d]),
+    ]
+}
+
 impl Tet {
     /// The tetrahedron with these corners, given in any order. None where they are flat.
     pub fn new(mut corners: [Place; 4], phys: i32, elem: i32) -> Option<Tet>
@@ -148,6 +175,16 @@ impl Tet {
         ensures rise { list_all (are_ascending place_cmp) result ≡ true }
     {
         pairs(self.corners)
+    }
+
+    /// Its points, its segments and its triangles, each in the order of its corners. Takes no
+    /// memory.
+    pub fn cells(&self) -> [Cell; 14]
+        ensures value { result ≡ cells_of self.now.corners }
+        // A cell is among them just where each of its corners is one of the tetrahedron's.
+        ensures has { (cell : Cell) → is_cell cell ≡ true → has cell_cmp cell result ≡ holds_all self.now.corners (corners_of cell) }
+    {
+        cells(self.corners)
     }
 
     /// Whether each of these places is a corner. Takes no memory.

@@ -4,7 +4,7 @@ use Rattle.std.specs.Prelude.{ℤ, pos, map}
 use Rattle.std.specs.List.{AllByRecursion, count_by, flat_map, list_all}
 use Rattle.std.specs.List.Sorted.{IsPermutation}
 use Rattle.std.specs.Ordering.{eq_by_cmp, int_eq}
-use Rattle.std.proofs.lemmas.Bool.{false≢true}
+use Rattle.std.proofs.lemmas.Bool.{and_parts}
 use Rattle.std.proofs.lemmas.List.Sums.{sum_by-append}
 use Rattle.ma_geom.specs.Coordinates.{Coordinates, place_cmp}
 use Rattle.ma_geom.specs.Rational.{Rational, IsMiddle}
@@ -19,8 +19,8 @@ use Rattle.ma_cover.specs.Inside.{is_inside}
 use Rattle.ma_cover.specs.OnFaces.{IsOffFaces, IsOffFacesOf, IsOffTriangle}
 use Rattle.ma_cover.proofs.Exchanges.{inside_in_any_order}
 use Rattle.ma_cover.proofs.Halves.{halves_keep_cover}
-use Rattle.ma_cover.proofs.Permutations.{ascending_of-permutes, has-permutation, tied}
-use Rattle.ma_cover.proofs.Pieces.{distinct_corners, has_edge, replaced_first, replaced_second}
+use Rattle.ma_cells.proofs.Permutations.{ascending_of-permutes, has-permutation, tied}
+use Rattle.ma_cells.proofs.Pieces.{distinct_corners, has_edge, replaced_first, replaced_second}
 use Rattle.ma_cover.proofs.WholeFaces.{off_between}
 
 -- ---- off the faces of each in a list
@@ -32,11 +32,6 @@ module _ (p : Rational) where
   all_right : (xs ys : List Tetrahedron) → IsOffFaces p (xs ++ ys) → IsOffFaces p ys
   all_right [] ys h = h
   all_right (x ∷ xs) ys h = all_right xs ys h.1
-
-first_and_rest : (s t : Bool) → (s && t) ≡ true → (s ≡ true) × (t ≡ true)
-first_and_rest true true e = (refl, refl)
-first_and_rest true false e = absurd (false≢true e)
-first_and_rest false t e = absurd (false≢true e)
 
 -- ---- one tetrahedron
 same_count : (f : List Coordinates → Bool) (u v w u' v' w' : List Coordinates) → f u' ≡ f u → f v' ≡ f v → f w' ≡ f w
@@ -127,7 +122,7 @@ module _ (g : ℤ → ℤ → Bool) (p : Rational) where
         → count_by (passes g p) (flat_map (bisect_tet a b m) tets) ≡ count_by (passes g p) tets
     list_passes [] are off = refl
     list_passes (tet ∷ tets) are off =
-        let parts = first_and_rest (are_corners tet.corners) (list_all (λ tet. are_corners tet.corners) tets) are in
+        let parts = and_parts (are_corners tet.corners) (list_all (λ tet. are_corners tet.corners) tets) are in
         let first = tet_passes tet parts.0 (all_left p (bisect_tet a b m tet) (flat_map (bisect_tet a b m) tets) off) in
         let rest = list_passes tets parts.1 (all_right p (bisect_tet a b m tet) (flat_map (bisect_tet a b m) tets) off) in
         sum_by-append (λ t. cond (passes g p t) 1 0) (bisect_tet a b m tet) (flat_map (bisect_tet a b m) tets)

@@ -1,67 +1,16 @@
--- Corners in another order.
-use Rattle.std.proofs.Common.{◌≡◌, ◌≢◌, ℕ, zero, suc, ◌<◌, Bool, true, false, ◌&&◌, List, [], ◌∷◌, length, refl, sym, ap, ◌∙◌, arith}
+-- What is within a tetrahedron, with its corners in another order.
+use Rattle.std.proofs.Common.{◌≡◌, ◌≢◌, ℕ, Bool, true, false, ◌&&◌, List, [], ◌∷◌, length, refl, sym, ap, ◌∙◌, arith}
 use Rattle.std.specs.Prelude.{ℤ, neg_ℤ}
-use Rattle.std.specs.List.{swap}
 use Rattle.std.specs.List.Sorted.{IsPermutation}
-use Rattle.std.proofs.lemmas.List.Sorted.{IsPermutation-keeps, length_permutation}
+use Rattle.std.proofs.lemmas.List.Sorted.{length_permutation}
 use Rattle.std.proofs.lemmas.Int.{ints}
 use Rattle.ma_geom.specs.Coordinates.{Coordinates}
 use Rattle.ma_geom.specs.Rational.{Rational, side}
 use Rattle.ma_geom.specs.Volume.{vol6}
 use Rattle.ma_geom.proofs.Identities.{vol6_exchange_ab, vol6_exchange_bc, side_exchange_ab, side_exchange_bc}
+use Rattle.ma_cells.proofs.FourPlaces.{OfFour, in_any_order}
 use Rattle.ma_cover.specs.Inside.{are_alike, is_beside, is_inside}
 
--- P of four corners
-abbrev pub OfFour : (Coordinates → Coordinates → Coordinates → Coordinates → Type 0) → List Coordinates → Type 0
-OfFour P (a ∷ b ∷ c ∷ d ∷ []) = P a b c d
-OfFour P _ = ⊥
-
--- ---- what any exchange of neighbours keeps, each order of four keeps
-module _ (P : Coordinates → Coordinates → Coordinates → Coordinates → Type 0)
-    (ab : (a b c d : Coordinates) → P a b c d → P b a c d)
-    (bc : (a b c d : Coordinates) → P a b c d → P a c b d)
-    (cd : (a b c d : Coordinates) → P a b c d → P a b d c) where
-  ac : (a b c d : Coordinates) → P a b c d → P c b a d
-  ac a b c d h = ab b c a d (bc b a c d (ab a b c d h))
-
-  bd : (a b c d : Coordinates) → P a b c d → P a d c b
-  bd a b c d h = bc a c d b (cd a c b d (bc a b c d h))
-
-  ad : (a b c d : Coordinates) → P a b c d → P d b c a
-  ad a b c d h = ab b d c a (bd b a c d (ab a b c d h))
-
-  exchange_keeps : (l : List Coordinates) (i j : ℕ) → i < length l → j < length l → OfFour P l → OfFour P (swap l i j)
-  exchange_keeps [] i j _ _ h = absurd h
-  exchange_keeps (a ∷ []) i j _ _ h = absurd h
-  exchange_keeps (a ∷ b ∷ []) i j _ _ h = absurd h
-  exchange_keeps (a ∷ b ∷ c ∷ []) i j _ _ h = absurd h
-  exchange_keeps (a ∷ b ∷ c ∷ d ∷ []) zero zero _ _ h = h
-  exchange_keeps (a ∷ b ∷ c ∷ d ∷ []) zero (suc zero) _ _ h = ab a b c d h
-  exchange_keeps (a ∷ b ∷ c ∷ d ∷ []) zero (suc (suc zero)) _ _ h = ac a b c d h
-  exchange_keeps (a ∷ b ∷ c ∷ d ∷ []) zero (suc (suc (suc zero))) _ _ h = ad a b c d h
-  exchange_keeps (a ∷ b ∷ c ∷ d ∷ []) zero (suc (suc (suc (suc k)))) _ below h = absurd (omega arith)
-  exchange_keeps (a ∷ b ∷ c ∷ d ∷ []) (suc zero) zero _ _ h = ab a b c d h
-  exchange_keeps (a ∷ b ∷ c ∷ d ∷ []) (suc zero) (suc zero) _ _ h = h
-  exchange_keeps (a ∷ b ∷ c ∷ d ∷ []) (suc zero) (suc (suc zero)) _ _ h = bc a b c d h
-  exchange_keeps (a ∷ b ∷ c ∷ d ∷ []) (suc zero) (suc (suc (suc zero))) _ _ h = bd a b c d h
-  exchange_keeps (a ∷ b ∷ c ∷ d ∷ []) (suc zero) (suc (suc (suc (suc k)))) _ below h = absurd (omega arith)
-  exchange_keeps (a ∷ b ∷ c ∷ d ∷ []) (suc (suc zero)) zero _ _ h = ac a b c d h
-  exchange_keeps (a ∷ b ∷ c ∷ d ∷ []) (suc (suc zero)) (suc zero) _ _ h = bc a b c d h
-  exchange_keeps (a ∷ b ∷ c ∷ d ∷ []) (suc (suc zero)) (suc (suc zero)) _ _ h = h
-  exchange_keeps (a ∷ b ∷ c ∷ d ∷ []) (suc (suc zero)) (suc (suc (suc zero))) _ _ h = cd a b c d h
-  exchange_keeps (a ∷ b ∷ c ∷ d ∷ []) (suc (suc zero)) (suc (suc (suc (suc k)))) _ below h = absurd (omega arith)
-  exchange_keeps (a ∷ b ∷ c ∷ d ∷ []) (suc (suc (suc zero))) zero _ _ h = ad a b c d h
-  exchange_keeps (a ∷ b ∷ c ∷ d ∷ []) (suc (suc (suc zero))) (suc zero) _ _ h = bd a b c d h
-  exchange_keeps (a ∷ b ∷ c ∷ d ∷ []) (suc (suc (suc zero))) (suc (suc zero)) _ _ h = cd a b c d h
-  exchange_keeps (a ∷ b ∷ c ∷ d ∷ []) (suc (suc (suc zero))) (suc (suc (suc zero))) _ _ h = h
-  exchange_keeps (a ∷ b ∷ c ∷ d ∷ []) (suc (suc (suc zero))) (suc (suc (suc (suc k)))) _ below h = absurd (omega arith)
-  exchange_keeps (a ∷ b ∷ c ∷ d ∷ []) (suc (suc (suc (suc k)))) j below _ h = absurd (omega arith)
-  exchange_keeps (a ∷ b ∷ c ∷ d ∷ e ∷ l) i j _ _ h = absurd h
-
-  pub in_any_order : (a b c d : Coordinates) (others : List Coordinates) → IsPermutation (a ∷ b ∷ c ∷ d ∷ []) others → P a b c d → OfFour P others
-  in_any_order a b c d others moved h = IsPermutation-keeps (a ∷ b ∷ c ∷ d ∷ []) (OfFour P) h exchange_keeps others moved
-
--- ---- inside
 turned_alike : (x y s t : ℤ) → s ≡ neg_ℤ x → t ≡ neg_ℤ y → are_alike s t ≡ are_alike x y
 turned_alike x y s t e f = grind (arith, ints)
 

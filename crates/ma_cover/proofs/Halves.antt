@@ -79,7 +79,7 @@ not_negative s h = omega (arith, ints)
 turned_positive : (s : ℤ) → s <ℤ pos 0 → pos 0 ≤ℤ neg_ℤ s
 turned_positive s h = omega (arith, ints)
 
-weaker : (s : ℤ) → pos 0 <ℤ s → pos 0 ≤ℤ s
+pub weaker : (s : ℤ) → pos 0 <ℤ s → pos 0 ≤ℤ s
 weaker s h = omega (arith, ints)
 
 on_middle : (m a b c d : Coordinates) (p : Rational) → IsMiddle m a b → pos 0 <ℤ vol6 a b c d
@@ -158,7 +158,7 @@ positive_halves m a b c d p middle positive off =
     (λ flat at_b at_c at_d. off (on_middle m a b c d p middle positive flat at_b at_c at_d)))
 
 -- ---- any tetrahedron that isn't flat
-either_way : (v : ℤ) → v ≢ pos 0 → (pos 0 <ℤ v) ⊎ (pos 0 <ℤ neg_ℤ v)
+pub either_way : (v : ℤ) → v ≢ pos 0 → (pos 0 <ℤ v) ⊎ (pos 0 <ℤ neg_ℤ v)
 either_way v h = grind (arith, ints)
 
 pub on_turned : (a b c : Coordinates) (p : Rational) → IsOnTriangle a c b p → IsOnTriangle a b c p

@@ -2,6 +2,5 @@ pub mod Covers
 pub mod Exchanges
 pub mod Halves
 pub mod OffFaces
-pub mod Permutations
-pub mod Pieces
+pub mod SoundOrder
 pub mod WholeFaces

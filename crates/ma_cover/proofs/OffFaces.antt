@@ -68,7 +68,7 @@ not_beside v s e = grind (arith, ints)
 beside_off : (a b c q : Coordinates) (p : Rational) → is_beside a b c q p ≡ true → IsOffTriangle a b c p
 beside_off a b c q p h on = false≢true (sym (not_beside (vol6 a b c q) (side a b c p) (on_side a b c p on)) ∙ h)
 
-all_four : (s t u v : Bool) → (s && t && u && v) ≡ true → (s ≡ true) × (t ≡ true) × (u ≡ true) × (v ≡ true)
+pub all_four : (s t u v : Bool) → (s && t && u && v) ≡ true → (s ≡ true) × (t ≡ true) × (u ≡ true) × (v ≡ true)
 all_four true true true true e = (refl, refl, refl, refl)
 all_four true true true false e = absurd (false≢true e)
 all_four true true false v e = absurd (false≢true e)

@@ -13,9 +13,9 @@ use Rattle.ma_cells.specs.Bisection.{bisect, replaced}
 use Rattle.ma_cells.specs.Faces.{holds_all}
 use Rattle.ma_cells.specs.Tetrahedron.{are_corners}
 use Rattle.ma_cover.specs.OnFaces.{IsOffFacesOf, IsOffTriangle, IsOnTriangle}
-use Rattle.ma_cover.proofs.Exchanges.{OfFour, in_any_order}
+use Rattle.ma_cells.proofs.FourPlaces.{OfFour, in_any_order}
 use Rattle.ma_cover.proofs.Halves.{on_turned, on_exchanged}
-use Rattle.ma_cover.proofs.Pieces.{has_edge, replaced_first, replaced_second}
+use Rattle.ma_cells.proofs.Pieces.{has_edge, replaced_first, replaced_second}
 
 -- ---- off the faces, in any order of the corners
 off_exchanged : (a b c : Coordinates) (p : Rational) → IsOffTriangle a b c p → IsOffTriangle b a c p

@@ -6,10 +6,12 @@ use Rattle.ma_geom.specs.Rational.{Rational, IsMiddle}
 use Rattle.ma_geom.specs.Volume.{vol6}
 use Rattle.ma_cells.specs.Ascending.{ascending_of}
 use Rattle.ma_cells.specs.Bisection.{bisect, bisect_tet}
+use Rattle.ma_cells.specs.Cells.{CellMark}
 use Rattle.ma_cells.specs.Tetrahedron.{Tetrahedron, are_corners}
 use Rattle.ma_cover.specs.Cover.{cover, whole_cover}
 use Rattle.ma_cover.specs.Inside.{is_inside}
 use Rattle.ma_cover.specs.OnFaces.{IsOffFaces, IsOffFacesOf, IsOffTriangle}
+use Rattle.ma_cover.specs.Sound.{IsSound}
 
 -- a point is within a tetrahedron whatever the order in which its corners are listed
 abbrev pub OrderOfCornersIsFree : Type 0
@@ -65,3 +67,7 @@ OffPiecesIsOffWhole = (p : Rational) (m a b : Coordinates) (corners : List Coord
 abbrev pub BisectKeepsInside : Type 0
 BisectKeepsInside = (p : Rational) (m a b : Coordinates) (corners : List Coordinates) → IsMiddle m a b → a ≢ b → are_corners corners ≡ true
     → AllByRecursion (IsOffFacesOf p) (bisect a b m corners) → count_by (is_inside p) (bisect a b m corners) ≡ count_by (is_inside p) (corners ∷ [])
+
+-- a mesh is sound in whatever order its tetrahedra are listed
+abbrev pub SoundInAnyOrder : Type 0
+SoundInAnyOrder = (tets others : List Tetrahedron) (marks : List CellMark) → IsPermutation tets others → IsSound tets marks → IsSound others marks

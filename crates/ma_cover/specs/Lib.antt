@@ -2,3 +2,4 @@ pub mod Inside
 pub mod OnFaces
 pub mod Cover
 pub mod Laws
+pub mod Sound

@@ -1,5 +1,5 @@
-//! Laws of inside and cover, each the contract of a function that does nothing.
-ghost use Rattle.ma_cover.specs.Laws.{BisectKeepsInside, BisectionKeepsCover, BisectionKeepsCoverOfOne, BisectionKeepsWholeCover, HalvesKeepCover, InsideIsOffFaces, MiddleIsNoEnd, OffPiecesIsOffWhole, OrderOfCornersIsFree, PiecesAreTetrahedra, PiecesKeepCover};
+//! Laws of inside, cover and soundness, each the contract of a function that does nothing.
+ghost use Rattle.ma_cover.specs.Laws.{BisectKeepsInside, BisectionKeepsCover, BisectionKeepsCoverOfOne, BisectionKeepsWholeCover, HalvesKeepCover, InsideIsOffFaces, MiddleIsNoEnd, OffPiecesIsOffWhole, OrderOfCornersIsFree, PiecesAreTetrahedra, PiecesKeepCover, SoundInAnyOrder};
 
 /// The order of the corners doesn't matter to what is within a tetrahedron.
 pub fn order_of_corners_is_free()
@@ -54,4 +54,9 @@ pub fn off_pieces_is_off_whole()
 /// The pieces have a point within them as often as the whole, off their closed faces.
 pub fn bisect_keeps_inside()
     ensures { BisectKeepsInside }
+{}
+
+/// Soundness doesn't depend on the order of the tetrahedra.
+pub fn sound_in_any_order()
+    ensures { SoundInAnyOrder }
 {}

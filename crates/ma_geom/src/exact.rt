@@ -1,6 +1,6 @@
-// Whole numbers that can't overflow: each step states its value and how far from zero it can be.
-// A coordinate is at most 2^30 in absolute value, so a difference is at most 2^31, a minor of two
-// rows of differences at most 2^63, and six times a volume at most 3 * 2^94.
+//! Whole numbers that can't overflow: each step states its value and how far from zero it can be.
+//! A coordinate is at most 2^30 in absolute value, so a difference is at most 2^31, a minor of two
+//! rows of differences at most 2^63, and six times a volume at most 3 * 2^94.
 ghost use Rattle.std.specs.Prelude.{◌≡◌, ◌≤◌, ◌*◌, ◌^◌, ◌+ℤ◌, ◌-ℤ◌, ◌*ℤ◌, unsigned_abs};
 
 /// The difference of two coordinates.
@@ -36,7 +36,7 @@ pub fn minor(p: i128, q: i128, r: i128, s: i128) -> i128
 }
 
 /// A minor times a difference.
-pub fn along(m: i128, u: i128) -> i128
+pub(crate) fn along(m: i128, u: i128) -> i128
     requires m_in { unsigned_abs m ≤ 2 ^ 63 }
     requires u_in { unsigned_abs u ≤ 2 ^ 31 }
     ensures value { result ≡ m *ℤ u }
@@ -46,7 +46,7 @@ pub fn along(m: i128, u: i128) -> i128
 }
 
 /// The sum of three such products.
-pub fn total(a: i128, b: i128, c: i128) -> i128
+pub(crate) fn total(a: i128, b: i128, c: i128) -> i128
     requires a_in { unsigned_abs a ≤ 2 ^ 94 }
     requires b_in { unsigned_abs b ≤ 2 ^ 94 }
     requires c_in { unsigned_abs c ≤ 2 ^ 94 }
@@ -57,7 +57,7 @@ pub fn total(a: i128, b: i128, c: i128) -> i128
 }
 
 /// The sum of three products of differences.
-pub fn short_total(p: i128, q: i128, r: i128) -> i128
+pub(crate) fn short_total(p: i128, q: i128, r: i128) -> i128
     requires p_in { unsigned_abs p ≤ 2 ^ 62 }
     requires q_in { unsigned_abs q ≤ 2 ^ 62 }
     requires r_in { unsigned_abs r ≤ 2 ^ 62 }

@@ -1,7 +1,7 @@
 //! Places with whole coordinates, and tests on them that are exact over the whole range.
 #![tactic(auto)]
 
-mod exact;
+pub mod exact;
 mod lengths;
 mod lines;
 mod memory;

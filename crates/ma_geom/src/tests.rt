@@ -56,6 +56,18 @@ fn the_volume_changes_its_sign_with_the_order(rt: HostRuntime) -> Result<(), Fai
     Ok(())
 }
 
+#[test]
+fn differences_and_minors_are_exact_at_the_ends_of_the_range(rt: HostRuntime) {
+    let most = exact::difference(GREATEST, -GREATEST);
+    assert_eq!(rt; most, 2147483648i128);
+    assert_eq!(rt; exact::product(most, -most), -4611686018427387904i128);
+    assert_eq!(rt;
+        exact::minor(most, -most, most, most),
+        9223372036854775808i128
+    );
+    assert_eq!(rt; exact::minor(1, 2, 3, 4), -2i128);
+}
+
 fn triangle(
     a: (i32, i32, i32),
     b: (i32, i32, i32),

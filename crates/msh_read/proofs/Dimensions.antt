@@ -4,14 +4,11 @@ use Rattle.std.specs.declared.cmp.Ordering.{Ordering}
 use Rattle.std.specs.declared.cmp.Ordering.TheVariants.{Less, Equal, Greater}
 use Rattle.std.specs.List.{All, list_all}
 use Rattle.std.specs.Ordering.{is_lt, is_eq}
-use Rattle.std.proofs.lemmas.Bool.{leb-true}
+use Rattle.std.proofs.lemmas.Bool.{and_from, leb-true}
 use Rattle.std.proofs.lemmas.List.Folds.{list_all-append}
 use Rattle.std.proofs.lemmas.List.Sums.{AllPass-from_list_all}
 use Rattle.ma_cells.specs.Ascending.{put, ascending_of}
 use Rattle.msh_read.specs.GroupNames.{GroupName, has_dimension}
-
-both : (a b : Bool) → a ≡ true → b ≡ true → (a && b) ≡ true
-both a b p q = rw (p, q) refl
 
 first : (a b : Bool) → (a && b) ≡ true → a ≡ true
 first true b e = refl
@@ -23,16 +20,16 @@ second false b e = absurd (cc)
 
 -- one more name
 pub kept : (names : List GroupName) (name : GroupName) → list_all has_dimension names ≡ true → has_dimension name ≡ true → list_all has_dimension (names ++ name ∷ []) ≡ true
-kept names name all one = list_all-append has_dimension names (name ∷ []) ∙ both _ _ all (both _ _ one refl)
+kept names name all one = list_all-append has_dimension names (name ∷ []) ∙ and_from _ _ all (and_from _ _ one refl)
 
 module _ {K : Type 0} (R : K → K → Ordering) (p : K → Bool) where
   all_put : (x : K) (ys : List K) → p x ≡ true → list_all p ys ≡ true → list_all p (put R x ys) ≡ true
-  all_put x [] one all = both _ _ one refl
+  all_put x [] one all = and_from _ _ one refl
   all_put x (y ∷ ys) one all =
       elim (R x y) as (λ r. list_all p (cond (is_lt r) (x ∷ y ∷ ys) (cond (is_eq r) (y ∷ ys) (y ∷ put R x ys))) ≡ true) [
-        | Less ↦ both _ _ one all
+        | Less ↦ and_from _ _ one all
         | Equal ↦ all
-        | Greater ↦ both _ _ (first _ _ all) (all_put x ys one (second _ _ all))
+        | Greater ↦ and_from _ _ (first _ _ all) (all_put x ys one (second _ _ all))
       ]
 
   -- the set of items that pass a test

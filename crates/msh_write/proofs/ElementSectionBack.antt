@@ -2,7 +2,7 @@
 use Rattle.std.proofs.Common.{◌≡◌, ℕ, suc, ◌+◌, ◌-◌, ◌^◌, ◌<◌, ◌≤◌, Bool, true, false, not, eqb, ◌&&◌, List, [], ◌∷◌, ◌++◌, length, map, Some, refl, sym, ap, ◌∙◌, arith, pos, codes, decimal}
 use Rattle.std.specs.Prelude.{Ok}
 use Rattle.std.specs.List.{list_all}
-use Rattle.std.proofs.lemmas.Bool.{and_parts, eq-eqb, eqb-true, ne_eqb}
+use Rattle.std.proofs.lemmas.Bool.{and_parts, eq-eqb, eqb-true, ne_eqb, not-true}
 use Rattle.std.proofs.lemmas.List.{length-map, map_push}
 use Rattle.ma_geom.specs.Coordinates.{Coordinates, place_cmp}
 use Rattle.ma_cells.specs.Ascending.{are_ascending, has}
@@ -23,11 +23,11 @@ use Rattle.msh_write.specs.ReadsBack.{positions_among, raw_mark, raw_tet}
 use Rattle.msh_write.specs.Text.{counted_section, element_line, kind_of, mark_element, number_among, numbered, oriented, tet_element}
 use Rattle.msh_write.proofs.ElementsBack.{element-closes, element-is_line, element-read}
 use Rattle.msh_write.proofs.LinesBack.{is_line}
-use Rattle.msh_write.proofs.NodesBack.{ascending-set, distinct-from_set, four, numbers_from, oriented-all, oriented-length, oriented-set}
-use Rattle.msh_write.proofs.NumbersBack.{false_from_not}
+use Rattle.msh_write.proofs.NodesBack.{ascending-set, distinct-from_set, numbers_from, oriented-all, oriented-length, oriented-set}
 use Rattle.msh_write.proofs.RunsBack.{run, run-append, run-section, run-all}
 use Rattle.msh_write.proofs.SectionsBack.{count_read-any, front_at, next-any, not_zero}
 use Rattle.msh_write.proofs.TextLines.{both_lengths, length-numbered, numbered-both}
+use Rattle.ma_cells.proofs.Pieces.{four_corners}
 
 -- ---- one element
 
@@ -89,7 +89,7 @@ module _ (nodes : List Coordinates) (few : length nodes ≤ 2147483647) (number 
     tet_ascends = (and_parts (are_ascending place_cmp tet.corners) (not (is_flat tet.corners)) (and_parts (are_corners tet.corners) _ good).0).0
 
     tet_four : length (oriented tet.corners) ≡ 4
-    tet_four = oriented-length tet.corners ∙ four tet.corners (false_from_not (is_flat tet.corners) (and_parts (are_ascending place_cmp tet.corners) (not (is_flat tet.corners)) (and_parts (are_corners tet.corners) _ good).0).1)
+    tet_four = oriented-length tet.corners ∙ four_corners tet.corners (not-true (is_flat tet.corners) (and_parts (are_ascending place_cmp tet.corners) (not (is_flat tet.corners)) (and_parts (are_corners tet.corners) _ good).0).1)
 
     tet_tags : (is_tag tet.phys ≡ true) × (is_tag tet.elem ≡ true)
     tet_tags = and_parts (is_tag tet.phys) (is_tag tet.elem) (and_parts (is_tag tet.phys && is_tag tet.elem) _ (and_parts (are_corners tet.corners) _ good).1).0

@@ -1,39 +1,38 @@
 -- The holders of a cell are the tetrahedra that have all its corners.
-use Rattle.std.proofs.Common.{◌≡◌, ℕ, zero, suc, ◌<◌, ◌⊎◌, inl, inr, Bool, true, false, cond, ◌&&◌, ◌||◌, List, [], ◌∷◌, ◌++◌, Option, Some, None, Ok, Err, OnOk, Result, All, length, eqb, get_or, drop, take, map, flat_map, append_assoc, add-one, drop-cons, length-drop, ◌+◌, ◌-◌, ◌≤◌, refl, sym, ap, subst, ◌∙◌, arith}
+use Rattle.std.proofs.Common.{◌≡◌, ℕ, zero, suc, ◌<◌, ◌⊎◌, inl, inr, Bool, true, false, cond, ◌&&◌, List, [], ◌∷◌, ◌++◌, Option, Some, None, Ok, Err, OnOk, Result, All, length, eqb, get_or, drop, take, map, flat_map, append_assoc, add-one, drop-cons, length-drop, ◌+◌, ◌-◌, ◌≤◌, refl, sym, ap, subst, ◌∙◌, arith}
 use Rattle.std.specs.declared.cmp.Ordering.{Ordering}
 use Rattle.std.specs.declared.cmp.Ordering.TheVariants.{Less, Equal, Greater}
 use Rattle.std.specs.Cmp.{IsTotalOrder, nat_cmp_total, tied_itself}
-use Rattle.std.specs.Cmp.Lexicographic.{options_total, slice_cmp}
+use Rattle.std.specs.Cmp.Lexicographic.{options_total}
 use Rattle.std.specs.FinMap.{IsAntisymmetric, nat_cmp-IsAntisymmetric}
 use Rattle.std.specs.List.{AllByRecursion, HoldsAt, filter, list_any, take_while}
 use Rattle.std.specs.List.Sorted.{IsStrictlySortedBy}
 use Rattle.std.specs.Option.{is_none, option_cmp, unwrap_or}
 use Rattle.std.specs.Ordering.{eq_by_cmp, is_eq, nat_cmp, ordering_then}
-use Rattle.std.proofs.lemmas.Bool.{false≢true}
+use Rattle.std.proofs.lemmas.Bool.{and_right}
 use Rattle.std.proofs.lemmas.Bool.Decides.{nat_tests}
 use Rattle.std.proofs.lemmas.Cmp.{on_total, then_total}
-use Rattle.std.proofs.lemmas.Grind.{common_steps}
 use Rattle.std.proofs.lemmas.List.{take_all}
-use Rattle.std.proofs.lemmas.List.Folds.{list_any-append, list_any_at}
+use Rattle.std.proofs.lemmas.List.Folds.{list_any_at}
 use Rattle.std.proofs.lemmas.List.Sums.{take_while-cons}
 use Rattle.ma_geom.specs.Coordinates.{Coordinates, place_cmp}
-use Rattle.ma_geom.proofs.PlaceOrder.{both_tie, place_cmp_total}
+use Rattle.ma_geom.proofs.PlaceOrder.{both_tie}
 use Rattle.ma_cells.specs.Ascending.{are_ascending, ascending_of, has}
 use Rattle.ma_cells.specs.Cells.{CellMark, cell_cmp, corners_of, is_cell}
-use Rattle.ma_cells.specs.Faces.{choices, edges_of, faces_of, holds_all}
+use Rattle.ma_cells.specs.Faces.{holds_all}
+use Rattle.ma_cells.specs.Incidence.{cells_of}
 use Rattle.ma_cells.specs.Tetrahedron.{Tetrahedron, tet_cmp}
 use Rattle.ma_cells.specs.declared.cell.Cell.{Cell}
-use Rattle.ma_cells.specs.declared.cell.Cell.TheVariants.{Point, Seg, Tri}
-use Rattle.ma_cells.proofs.Ascents.{has-ascending_of, is-ascending_of, sorted-ascending_of, strict_from_ascending}
+use Rattle.ma_cells.proofs.Ascents.{has-ascending_of, is-ascending_of, sorted-ascending_of}
 use Rattle.ma_cells.proofs.CellOrders.{cell_cmp-IsAntisymmetric, cell_cmp_total, derived_cell_cmp, tet_cmp-IsAntisymmetric}
-use Rattle.ma_cells.proofs.Choices.{has-choices}
+use Rattle.ma_cells.proofs.CellLists.{has-cells_of}
 use Rattle.ma_cells.specs.contracts.cell.CellOrd.TheImpl as CellOrder
-use Rattle.msh_write.specs.Holders.{Holder, cells_of, holder_cmp, holder_element, holder_tags, holders_by, holders_of, is_among, is_of, marked_cells}
+use Rattle.msh_write.specs.Holders.{Holder, holder_cmp, holder_element, holder_tags, holders_by, holders_of, is_among, is_of, marked_cells}
 use Rattle.msh_write.specs.PartText.{Member, cell_tags, is_on_own, member_cmp, resident_element, resident_tags, residents_of}
 use Rattle.msh_write.specs.Text.{element_line, mark_element, numbered}
 use Rattle.msh_write.proofs.TextLines.{numbered-alike}
-use Rattle.msh_write.proofs.Numbering.{not_true}
-use Rattle.msh_write.proofs.Sets.{any-and, any-ascending_of, any-filter, any-flat_map, any-map, any-none, any-same}
+use Rattle.msh_write.proofs.Sets.{any-and, any-ascending_of, any-filter, any-flat_map, any-same}
+use Rattle.ma_cells.proofs.Passing.{any-map}
 
 option-IsAntisymmetric : IsAntisymmetric (option_cmp nat_cmp)
 option-IsAntisymmetric None None e = refl
@@ -59,9 +58,7 @@ holder_cmp-IsAntisymmetric h k e =
     let labels = option-IsAntisymmetric h.1 k.1 both.1 in
     λ i. (cells i, labels i)
 
--- the derived order of cells is theirs, and so is that of holders
-pub derived_cells : CellOrder.ghosts.cmp ≡ cell_cmp
-derived_cells = λ i c d. derived_cell_cmp c d i
+-- the derived order of holders is theirs
 
 pub derived_holder_cmp : (λ (h k : Holder). ordering_then (CellOrder.ghosts.cmp h.0 k.0) (option_cmp nat_cmp h.1 k.1)) ≡ holder_cmp
 derived_holder_cmp = λ i h k. ordering_then (derived_cell_cmp h.0 k.0 i) (option_cmp nat_cmp h.1 k.1)
@@ -127,67 +124,8 @@ from-first cell (h ∷ hs) (suc k) d s below is =
     let before : is_of cell h ≡ false = none-before cell h (subst (λ z. holder_cmp h z ≡ Less) is (at-tail h hs k d (omega arith) s.0)) in
     rw before (from-first cell hs k d s.1 (omega arith) is)
 
-and_both : (a b : Bool) → (a && b) ≡ true → (a ≡ true) × (b ≡ true)
-and_both true b h = (refl, h)
-and_both false b h = absurd (false≢true h)
-
 is_long : (n m : ℕ) → eqb n m ≡ true → n ≡ m
 is_long n m h = grind (arith, nat_tests)
-
-or_none : (b : Bool) → ((b || false) || false) ≡ (b && true)
-or_none true = refl
-or_none false = refl
-
-or_false : (b : Bool) → (b || false) ≡ b
-or_false true = refl
-or_false false = refl
-
-module _ (corners : List Coordinates) (rises : are_ascending place_cmp corners ≡ true) where
-  chosen : (n : ℕ) (places : List Coordinates) → eqb (length places) n ≡ true → are_ascending place_cmp places ≡ true
-      → has (slice_cmp place_cmp) places (choices n corners) ≡ holds_all corners places
-  chosen n places long ascends =
-      subst (λ k. has (slice_cmp place_cmp) places (choices k corners) ≡ holds_all corners places) (is_long (length places) n long)
-      (has-choices place_cmp_total places corners (strict_from_ascending place_cmp_total places ascends) (strict_from_ascending place_cmp_total corners rises))
-
-  in_three : (cell : Cell) → has cell_cmp cell (cells_of corners)
-      ≡ ((list_any (λ p. eq_by_cmp cell_cmp cell (Point p)) corners || list_any (λ s. eq_by_cmp cell_cmp cell (Seg s)) (edges_of corners)) || list_any (λ t. eq_by_cmp cell_cmp cell (Tri t)) (faces_of corners))
-  in_three cell =
-      let is : Cell → Bool = eq_by_cmp cell_cmp cell in
-      list_any-append is (map Point corners ++ map Seg (edges_of corners)) (map Tri (faces_of corners))
-      ∙ ap (λ b. b || list_any is (map Tri (faces_of corners))) (list_any-append is (map Point corners) (map Seg (edges_of corners)))
-      ∙ ap (λ b. (b || list_any is (map Seg (edges_of corners))) || list_any is (map Tri (faces_of corners))) (any-map is Point corners)
-      ∙ ap (λ b. (list_any (λ p. is (Point p)) corners || b) || list_any is (map Tri (faces_of corners))) (any-map is Seg (edges_of corners))
-      ∙ ap (λ b. (list_any (λ p. is (Point p)) corners || list_any (λ s. is (Seg s)) (edges_of corners)) || b) (any-map is Tri (faces_of corners))
-
-  no-point : (cell : Cell) → ((p : Coordinates) → eq_by_cmp cell_cmp cell (Point p) ≡ false) → list_any (λ p. eq_by_cmp cell_cmp cell (Point p)) corners ≡ false
-  no-point cell other = any-none (λ p. eq_by_cmp cell_cmp cell (Point p)) other corners
-
-  no-edge : (cell : Cell) → ((s : List Coordinates) → eq_by_cmp cell_cmp cell (Seg s) ≡ false) → list_any (λ s. eq_by_cmp cell_cmp cell (Seg s)) (edges_of corners) ≡ false
-  no-edge cell other = any-none (λ s. eq_by_cmp cell_cmp cell (Seg s)) other (edges_of corners)
-
-  no-face : (cell : Cell) → ((t : List Coordinates) → eq_by_cmp cell_cmp cell (Tri t) ≡ false) → list_any (λ t. eq_by_cmp cell_cmp cell (Tri t)) (faces_of corners) ≡ false
-  no-face cell other = any-none (λ t. eq_by_cmp cell_cmp cell (Tri t)) other (faces_of corners)
-
-  -- a cell is among the cells of corners just where each of its corners is
-  pub cell-among : (cell : Cell) → is_cell cell ≡ true → has cell_cmp cell (cells_of corners) ≡ holds_all corners (corners_of cell)
-  cell-among (Point p) is =
-      in_three (Point p)
-      ∙ ap (λ b. (has place_cmp p corners || b) || list_any (λ t. eq_by_cmp cell_cmp (Point p) (Tri t)) (faces_of corners)) (no-edge (Point p) (λ _. refl))
-      ∙ ap (λ b. (has place_cmp p corners || false) || b) (no-face (Point p) (λ _. refl))
-      ∙ or_none (has place_cmp p corners)
-  cell-among (Seg s) is =
-      let both = and_both (eqb (length s) 2) (are_ascending place_cmp s) is in
-      in_three (Seg s)
-      ∙ ap (λ b. (b || has (slice_cmp place_cmp) s (edges_of corners)) || list_any (λ t. eq_by_cmp cell_cmp (Seg s) (Tri t)) (faces_of corners)) (no-point (Seg s) (λ _. refl))
-      ∙ ap (λ b. has (slice_cmp place_cmp) s (edges_of corners) || b) (no-face (Seg s) (λ _. refl))
-      ∙ or_false (has (slice_cmp place_cmp) s (edges_of corners))
-      ∙ chosen 2 s both.0 both.1
-  cell-among (Tri t) is =
-      let both = and_both (eqb (length t) 3) (are_ascending place_cmp t) is in
-      in_three (Tri t)
-      ∙ ap (λ b. (b || list_any (λ s. eq_by_cmp cell_cmp (Tri t) (Seg s)) (edges_of corners)) || has (slice_cmp place_cmp) t (faces_of corners)) (no-point (Tri t) (λ _. refl))
-      ∙ ap (λ b. b || has (slice_cmp place_cmp) t (faces_of corners)) (no-edge (Tri t) (λ _. refl))
-      ∙ chosen 3 t both.0 both.1
 
 own_tie : (o : Ordering) (label : Option ℕ) → is_eq (ordering_then o (option_cmp nat_cmp None label)) ≡ (is_eq o && is_none label)
 own_tie Less label = refl
@@ -201,18 +139,14 @@ and_turned true false = refl
 and_turned false true = refl
 and_turned false false = refl
 
-and_false : (a : Bool) → (a && false) ≡ false
-and_false true = refl
-and_false false = refl
-
 module _ (cells : List Cell) (cell : Cell) (is : is_cell cell ≡ true) (marked : is_among cells cell ≡ true) where
   -- what is the cell is among the cells
   kept : (c : Cell) (b : Bool) → (is_among cells c && (eq_by_cmp cell_cmp cell c && b)) ≡ (eq_by_cmp cell_cmp cell c && b)
   kept c b =
       elim (cell_cmp cell c) as (λ r. cell_cmp cell c ≡ r → (is_among cells c && (is_eq r && b)) ≡ (is_eq r && b)) [
-        | Less ↦ λ _. and_false (is_among cells c)
+        | Less ↦ λ _. and_right (is_among cells c) false refl
         | Equal ↦ λ e. ap (λ a. a && b) (subst (λ d. is_among cells d ≡ true) (cell_cmp-IsAntisymmetric cell c e) marked)
-        | Greater ↦ λ _. and_false (is_among cells c)
+        | Greater ↦ λ _. and_right (is_among cells c) false refl
       ] refl
 
   -- a further condition on who has the cell
@@ -220,7 +154,7 @@ module _ (cells : List Cell) (cell : Cell) (is : is_cell cell ≡ true) (marked 
   of_member m b rises =
       any-filter (λ c. eq_by_cmp cell_cmp cell c && b) (is_among cells) (cells_of m.0.corners)
       ∙ ap (λ f. list_any f (cells_of m.0.corners)) (λ i c. kept c b i)
-      ∙ any-and (λ c. eq_by_cmp cell_cmp cell c) b (cells_of m.0.corners) ∙ ap (λ a. a && b) (cell-among m.0.corners rises cell is)
+      ∙ any-and (λ c. eq_by_cmp cell_cmp cell c) b (cells_of m.0.corners) ∙ ap (λ a. a && b) (has-cells_of m.0.corners rises cell is)
 
   own-by : (m : Member) → are_ascending place_cmp m.0.corners ≡ true → has holder_cmp (cell, None) (holders_by cells m) ≡ (is_none m.1 && holds_all m.0.corners (corners_of cell))
   own-by m rises =
@@ -288,19 +222,8 @@ pub members-added : (own own' : List Tetrahedron) (ghosts ghosts' : List (Tetrah
     → b ≡ a ++ map (λ tet. (tet, None)) own' → c ≡ b ++ map (λ g. (g.0, Some g.1)) ghosts' → c ≡ map (λ tet. (tet, None)) own ++ map (λ g. (g.0, Some g.1)) ghosts
 members-added own own' ghosts ghosts' a b c start owns ghosts_are first second = rw (second, first, start, owns, ghosts_are) refl
 
-one-more : {X Y : Type 0} (f : X → List Y) (xs : List X) (i : ℕ) (x : X) → i < length xs → x ≡ get_or xs i x → flat_map f (take i xs) ++ f x ≡ flat_map f (take (i + 1) xs)
-one-more f xs i x below at = grind (arith, common_steps)
-
-pub members-step : (cells : List Cell) (members : List Member) (i : ℕ) (m : Member) (before written : List Holder) → i < length members → m ≡ get_or members i m
-    → before ≡ flat_map (holders_by cells) (take i members) → written ≡ before ++ holders_by cells m → written ≡ flat_map (holders_by cells) (take (i + 1) members)
-members-step cells members i m before written below at so_far e =
-    e ∙ ap (λ hs. hs ++ holders_by cells m) so_far ∙ one-more (holders_by cells) members i m below at
-
 pub tied_holder : (h k : Holder) → ordering_then (CellOrder.ghosts.cmp h.0 k.0) (option_cmp nat_cmp h.1 k.1) ≡ Equal → h ≡ k
 tied_holder h k e = holder_cmp-IsAntisymmetric h k (ap (λ R. R h k) (sym derived_holder_cmp) ∙ e)
-
-pub has-none : (h : Holder) (hs : List Holder) → (has holder_cmp h hs ≡ true → ⊥) → has holder_cmp h hs ≡ false
-has-none h hs none = not_true (has holder_cmp h hs) none
 
 rest_length : {X : Type 0} (xs : List X) (i : ℕ) → length (drop i xs) ≤ length xs - i
 rest_length xs i = rw (length-drop i xs) (omega arith)

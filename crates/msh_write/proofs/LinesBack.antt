@@ -1,7 +1,7 @@
 -- The lines of a text in which each line has a line feed behind it.
 use Rattle.std.proofs.Common.{◌≡◌, ℕ, ◌+◌, ◌<◌, Bool, true, not, ltb, eqb, ◌&&◌, List, [], ◌∷◌, ◌++◌, length, refl, sym, ap, ◌∙◌, arith, append_assoc}
 use Rattle.std.specs.List.{enumerate_from, list_all, before_first, after_first, position_or_len}
-use Rattle.std.proofs.lemmas.Bool.{and_from, and_parts, lt-ltb, ltb-true, ne_eqb, not_from_false}
+use Rattle.std.proofs.lemmas.Bool.{and_from, and_parts, lt-ltb, ltb-true, ne_eqb, not-true, not_from_false}
 use Rattle.std.proofs.lemmas.List.{append-nil, take_rest}
 use Rattle.std.proofs.lemmas.List.Folds.{list_all-append}
 use Rattle.ma_text.specs.LineEnds.{without_return}
@@ -10,7 +10,7 @@ use Rattle.ma_text.proofs.Firsts.{after_first-no, after_first-yes, PassesFirst, 
 use Rattle.ma_text.proofs.LineCuts.{first_line, is_feed, lines_of-nil}
 use Rattle.msh_write.specs.Text.{ended, line_of}
 use Rattle.msh_write.proofs.WordsBack.{is_plain, is_word, plain-blank}
-use Rattle.msh_write.proofs.NumbersBack.{false_from_not, weaker}
+use Rattle.msh_write.proofs.NumbersBack.{weaker}
 
 -- whether the last byte isn't a carriage return
 abbrev pub ends_plain : List ℕ → Bool
@@ -24,7 +24,7 @@ is_line line = list_all (λ x. not (is_feed x)) line && (ends_plain line && not 
 
 pub without_return-plain : (line : List ℕ) → ends_plain line ≡ true → without_return line ≡ line
 without_return-plain [] h = refl
-without_return-plain (x ∷ []) h = rw (false_from_not (eqb x 13) h) refl
+without_return-plain (x ∷ []) h = rw (not-true (eqb x 13) h) refl
 without_return-plain (x ∷ y ∷ rest) h = ap (λ r. x ∷ r) (without_return-plain (y ∷ rest) h)
 
 -- bytes up to the first that passes a test
@@ -33,19 +33,19 @@ module _ (p : ℕ → Bool) (y : ℕ) (yes : p y ≡ true) where
   position-at [] rest h = omega (arith, position_or_len-yes p y rest yes)
   position-at (x ∷ line) rest h =
       let parts = and_parts (not (p x)) (list_all (λ z. not (p z)) line) h in
-      omega (arith, position_or_len-no p x (line ++ y ∷ rest) (false_from_not (p x) parts.0), position-at line rest parts.1)
+      omega (arith, position_or_len-no p x (line ++ y ∷ rest) (not-true (p x) parts.0), position-at line rest parts.1)
 
   pub before-at : (line rest : List ℕ) → list_all (λ x. not (p x)) line ≡ true → before_first p (line ++ y ∷ rest) ≡ line
   before-at [] rest h = before_first-yes p y rest yes
   before-at (x ∷ line) rest h =
       let parts = and_parts (not (p x)) (list_all (λ z. not (p z)) line) h in
-      before_first-no p x (line ++ y ∷ rest) (false_from_not (p x) parts.0) ∙ ap (λ r. x ∷ r) (before-at line rest parts.1)
+      before_first-no p x (line ++ y ∷ rest) (not-true (p x) parts.0) ∙ ap (λ r. x ∷ r) (before-at line rest parts.1)
 
   pub after-at : (line rest : List ℕ) → list_all (λ x. not (p x)) line ≡ true → after_first p (line ++ y ∷ rest) ≡ rest
   after-at [] rest h = after_first-yes p y rest yes
   after-at (x ∷ line) rest h =
       let parts = and_parts (not (p x)) (list_all (λ z. not (p z)) line) h in
-      after_first-no p x (line ++ y ∷ rest) (false_from_not (p x) parts.0) ∙ after-at line rest parts.1
+      after_first-no p x (line ++ y ∷ rest) (not-true (p x) parts.0) ∙ after-at line rest parts.1
 
 lines_of-more : (line rest : List ℕ) → is_line line ≡ true → lines_of (line ++ 10 ∷ rest) ≡ line ∷ lines_of rest
 lines_of-more line rest h =

@@ -1,13 +1,13 @@
 -- The text of a mesh is read as the mesh.
 use Rattle.std.proofs.Common.{◌≡◌, ℕ, zero, suc, ◌+◌, ◌<◌, ◌≤◌, true, not, cond, eqb, ◌&&◌, List, [], ◌∷◌, length, map, flat_map, get_or, None, Some, refl, sym, ap, ◌∙◌, arith, pos}
 use Rattle.std.specs.List.{All, filter, list_all}
-use Rattle.std.proofs.lemmas.Bool.{and_from, and_parts, eqb-true, le-leb}
+use Rattle.std.proofs.lemmas.Bool.{and_from, and_parts, eqb-true, le-leb, not-true}
 use Rattle.std.proofs.lemmas.List.Elements.{All-filter, All-head, All-tail}
 use Rattle.std.proofs.lemmas.List.Folds.{list_all-append}
 use Rattle.std.proofs.lemmas.List.Sums.{list_all-from_AllPass}
 use Rattle.ma_geom.specs.Coordinates.{Coordinates, IsInRange, limit, place_cmp}
 use Rattle.ma_cells.specs.Ascending.{are_ascending, has}
-use Rattle.ma_cells.specs.Cells.{CellMark, cell_of, cell_on, corners_of, is_cell}
+use Rattle.ma_cells.specs.Cells.{CellMark, cell_of, cell_on, corners_of, is_cell, mark_on}
 use Rattle.ma_cells.specs.Tetrahedron.{Tetrahedron, are_corners, is_flat, tetrahedron_of}
 use Rattle.ma_cells.specs.declared.batch.Batch.{Batch}
 use Rattle.ma_cells.specs.declared.cell.Cell.{Cell}
@@ -18,13 +18,13 @@ use Rattle.msh_read.specs.NameLines.{is_quote}
 use Rattle.msh_read.specs.Reading.{read_of}
 use Rattle.msh_read.proofs.Dimensions.{all_ascending}
 use Rattle.ma_text.proofs.LineCuts.{is_feed}
-use Rattle.msh_write.specs.ReadsBack.{AreReadable, IsReadable, RawIsMesh, ReadsBack, TextReadsBack, mark_of, may_be_quoted, places_at, positions_among, raw_mark, raw_tet}
+use Rattle.msh_write.specs.ReadsBack.{AreReadable, IsReadable, RawIsMesh, ReadsBack, TextReadsBack, may_be_quoted, places_at, positions_among, raw_mark, raw_tet}
 use Rattle.msh_write.specs.Text.{is_tagged, mark_element, nodes_of, oriented, tet_element, text_of, text_with}
 use Rattle.msh_write.proofs.ElementSectionBack.{cell-ascends, is_good_mark, is_good_tet}
 use Rattle.msh_write.proofs.EntriesBack.{is_in_range, is_readable}
 use Rattle.msh_write.proofs.NodesBack.{among, ascending-set, distinct-from_set, oriented-all, oriented-set}
 use Rattle.msh_write.proofs.Numbering.{corners-there, marks-there}
-use Rattle.msh_write.proofs.NumbersBack.{false_from_not, weaker}
+use Rattle.msh_write.proofs.NumbersBack.{weaker}
 use Rattle.msh_write.proofs.TextBack.{text-read}
 use Rattle.msh_write.proofs.TextLines.{both_lengths}
 
@@ -112,7 +112,7 @@ tet-again nodes tet good =
     let there = oriented-all (λ p. has place_cmp p nodes) tet.corners ∙ (and_parts (is_tag tet.phys && is_tag tet.elem) _ parts.1).1 in
     ap (λ places. tetrahedron_of places tet.phys tet.elem) (places-again nodes (oriented tet.corners) there)
     ∙ ap (λ corners. cond (is_flat corners) None (Some (record { corners = corners; phys = tet.phys; elem = tet.elem }))) (sym (oriented-set tet.corners ascends.0))
-    ∙ rw (false_from_not (is_flat tet.corners) ascends.1) refl
+    ∙ rw (not-true (is_flat tet.corners) ascends.1) refl
 
 tets-again : (nodes : List Coordinates) (tets : List Tetrahedron) → list_all (is_good_tet nodes) tets ≡ true
     → map (λ tet. tetrahedron_of (places_at nodes tet.at) tet.phys tet.elem) (map (raw_tet nodes) tets) ≡ map (λ tet. Some tet) tets
@@ -139,7 +139,7 @@ cell-again cell h =
     rw (distinct-from_set (corners_of cell) (corners_of cell) set refl) (ap cell_on (sym set) ∙ cell-on-corners cell h)
 
 marks-again : (nodes : List Coordinates) (marks : List CellMark) → list_all (is_good_mark nodes) marks ≡ true
-    → map (λ mark. mark_of (places_at nodes mark.at.items) mark.phys mark.elem) (map (raw_mark nodes) marks) ≡ map (λ mark. Some mark) marks
+    → map (λ mark. mark_on (places_at nodes mark.at.items) mark.phys mark.elem) (map (raw_mark nodes) marks) ≡ map (λ mark. Some mark) marks
 marks-again nodes [] good = refl
 marks-again nodes (mark ∷ marks) good =
     let parts = and_parts (is_good_mark nodes mark) (list_all (is_good_mark nodes) marks) good in

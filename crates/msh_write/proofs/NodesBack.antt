@@ -5,18 +5,16 @@ use Rattle.std.specs.Cmp.{Equal-is, int_cmp_total, tied_itself}
 use Rattle.std.specs.FinMap.{int_cmp-IsAntisymmetric}
 use Rattle.std.specs.List.{list_all, list_any, position_or_len}
 use Rattle.std.specs.Ordering.{eq_by_cmp, int_cmp, int_eq, is_eq}
-use Rattle.std.proofs.lemmas.Bool.{and_from, and_parts, cases_Bool, eq-eqb, false_from_ne_true, lt-ltb, not_from_false, or_from, or_parts}
+use Rattle.std.proofs.lemmas.Bool.{and_from, and_parts, cases_Bool, eq-eqb, false_from_ne_true, lt-ltb, not-true, not_from_false, or_from, or_parts}
 use Rattle.ma_geom.specs.Coordinates.{Coordinates, place_cmp}
 use Rattle.ma_geom.specs.Volume.{vol6}
 use Rattle.ma_geom.proofs.PlaceOrder.{place_cmp-IsAntisymmetric, place_cmp_total}
 use Rattle.ma_cells.specs.Ascending.{are_ascending, are_distinct, ascending_of, has}
-use Rattle.ma_cells.specs.Tetrahedron.{is_flat}
 use Rattle.ma_cells.proofs.Ascents.{is-ascending_of, length-ascending_of, strict_from_ascending}
 use Rattle.msh_read.specs.ElementLines.{are_different, position_of}
 use Rattle.msh_read.specs.NodeLines.{is_used}
 use Rattle.msh_read.specs.Steps.{each}
 use Rattle.msh_write.specs.Text.{number_among, oriented}
-use Rattle.msh_write.proofs.NumbersBack.{false_from_not}
 
 -- so many numbers, from the first on
 abbrev pub numbers_from : ℕ → ℕ → List ℤ
@@ -127,7 +125,7 @@ numbers-different nodes [] all apart = refl
 numbers-different nodes (p ∷ places) all apart =
     let parts = and_parts (has place_cmp p nodes) (list_all (λ q. has place_cmp q nodes) places) all in
     let both = and_parts (not (has place_cmp p places)) (are_distinct place_cmp places) apart in
-    and_from _ _ (not_from_false _ (none_same nodes p places parts.0 parts.1 (false_from_not _ both.0))) (numbers-different nodes places parts.1 both.1)
+    and_from _ _ (not_from_false _ (none_same nodes p places parts.0 parts.1 (not-true _ both.0))) (numbers-different nodes places parts.1 both.1)
 
 -- the positions of places
 pub positions-found : (nodes places : List Coordinates) → list_all (λ q. has place_cmp q nodes) places ≡ true
@@ -196,11 +194,3 @@ oriented-all p (a ∷ b ∷ c ∷ d ∷ []) =
       | false ↦ refl
     ]
 oriented-all p (a ∷ b ∷ c ∷ d ∷ e ∷ es) = refl
-
-pub four : (corners : List Coordinates) → is_flat corners ≡ false → length corners ≡ 4
-four [] h = absurd cc
-four (a ∷ []) h = absurd cc
-four (a ∷ b ∷ []) h = absurd cc
-four (a ∷ b ∷ c ∷ []) h = absurd cc
-four (a ∷ b ∷ c ∷ d ∷ []) h = refl
-four (a ∷ b ∷ c ∷ d ∷ e ∷ es) h = absurd cc

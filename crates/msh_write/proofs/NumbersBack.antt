@@ -1,9 +1,9 @@
 -- Decimal numbers are read as the numbers that they write.
-use Rattle.std.proofs.Common.{◌≡◌, ℕ, suc, ◌+◌, ◌/◌, ◌%◌, ◌^◌, ◌<◌, ◌≤◌, Bool, true, false, not, leb, eqb, ◌||◌, List, [], ◌∷◌, ◌++◌, length, fold, Some, refl, sym, ap, ◌∙◌, arith, inl, inr, decimal, length-append, ℤ, pos, negsuc}
+use Rattle.std.proofs.Common.{◌≡◌, ℕ, suc, ◌+◌, ◌/◌, ◌%◌, ◌^◌, ◌<◌, ◌≤◌, Bool, true, false, not, leb, eqb, ◌||◌, List, [], ◌∷◌, ◌++◌, length, fold, Some, refl, ap, ◌∙◌, arith, inl, inr, decimal, length-append, ℤ, pos, negsuc}
 use Rattle.std.specs.Fmt.{signed_decimal}
 use Rattle.std.specs.Prelude.{Ok}
 use Rattle.std.specs.List.{list_all, before_first, after_first}
-use Rattle.std.proofs.lemmas.Bool.{and_from, and_parts, cases_Bool, eqb-true, leb-true, le-leb, lt-ltb, ne_eqb, not_from_false, or_right}
+use Rattle.std.proofs.lemmas.Bool.{and_from, and_parts, cases_Bool, eqb-true, le-leb, leb-true, lt-ltb, ne_eqb, not-true, not_from_false, or_right}
 use Rattle.std.proofs.lemmas.Fmt.{decimal_by_steps}
 use Rattle.std.proofs.lemmas.List.Folds.{list_all-append}
 use Rattle.std.proofs.lemmas.List.Sums.{fold-append}
@@ -77,22 +77,18 @@ digits_of-signed (negsuc n) h = rw (written-signed (negsuc n) h, lt-ltb n (2 ^ 6
 
 -- ---- coordinates, which may have a point
 
-pub false_from_not : (b : Bool) → not b ≡ true → b ≡ false
-false_from_not true h = sym h
-false_from_not false h = refl
-
 -- no byte passes
 pub before_first-none : (p : ℕ → Bool) (xs : List ℕ) → list_all (λ x. not (p x)) xs ≡ true → before_first p xs ≡ xs
 before_first-none p [] h = refl
 before_first-none p (x ∷ xs) h =
     let parts = and_parts (not (p x)) (list_all (λ y. not (p y)) xs) h in
-    before_first-no p x xs (false_from_not (p x) parts.0) ∙ ap (λ r. x ∷ r) (before_first-none p xs parts.1)
+    before_first-no p x xs (not-true (p x) parts.0) ∙ ap (λ r. x ∷ r) (before_first-none p xs parts.1)
 
 pub after_first-none : (p : ℕ → Bool) (xs : List ℕ) → list_all (λ x. not (p x)) xs ≡ true → after_first p xs ≡ []
 after_first-none p [] h = refl
 after_first-none p (x ∷ xs) h =
     let parts = and_parts (not (p x)) (list_all (λ y. not (p y)) xs) h in
-    after_first-no p x xs (false_from_not (p x) parts.0) ∙ after_first-none p xs parts.1
+    after_first-no p x xs (not-true (p x) parts.0) ∙ after_first-none p xs parts.1
 
 -- a minus or a digit
 abbrev pub is_of_number : ℕ → Bool

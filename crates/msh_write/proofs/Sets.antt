@@ -1,16 +1,23 @@
--- Whether any item of a list passes a test.
-use Rattle.std.proofs.Common.{◌≡◌, Bool, true, false, cond, ◌&&◌, ◌||◌, List, [], ◌∷◌, map, flat_map, refl, sym, ap, ◌∙◌}
+-- Whether any item of a list passes a test, and lists that are made item by item.
+use Rattle.std.proofs.Common.{◌≡◌, ℕ, ◌+◌, ◌<◌, Bool, true, false, cond, ◌&&◌, ◌||◌, List, [], ◌∷◌, ◌++◌, length, get_or, take, map, flat_map, refl, sym, ap, ◌∙◌, arith}
 use Rattle.std.specs.declared.cmp.Ordering.{Ordering}
 use Rattle.std.specs.declared.cmp.Ordering.TheVariants.{Less, Equal, Greater}
 use Rattle.std.specs.FinMap.{IsAntisymmetric}
-use Rattle.std.specs.List.{AllByRecursion, filter, list_any}
+use Rattle.std.specs.List.{All, AllByRecursion, filter, list_any}
 use Rattle.std.specs.Ordering.{is_eq, is_lt}
+use Rattle.std.proofs.lemmas.Grind.{common_steps}
+use Rattle.std.proofs.lemmas.List.Elements.{All-cons, All-head, All-nil, All-tail}
 use Rattle.std.proofs.lemmas.List.Folds.{list_any-append}
 use Rattle.ma_cells.specs.Ascending.{ascending_of, put}
 
-or_later : (a b : Bool) → b ≡ true → (a || b) ≡ true
-or_later true b h = refl
-or_later false b h = h
+pub All-from_map : {X Y : Type 0} (P : Y → Type 0) (f : X → Y) (xs : List X) → All P (map f xs) → All (λ x. P (f x)) xs
+All-from_map P f [] h = All-nil (λ x. P (f x))
+All-from_map P f (x ∷ xs) h = All-cons (λ y. P (f y)) x xs (All-head P (f x) (map f xs) h) (All-from_map P f xs (All-tail P (f x) (map f xs) h))
+
+-- one more step of a loop that collects what each item has
+pub collected : {X Y : Type 0} (f : X → List Y) (xs : List X) (i : ℕ) (x : X) (before written : List Y) → i < length xs → x ≡ get_or xs i x → before ≡ flat_map f (take i xs) → written ≡ before ++ f x
+    → written ≡ flat_map f (take (i + 1) xs)
+collected f xs i x before written below at so_far e = grind (arith, common_steps)
 
 or_twice : (a b : Bool) → (a || b) ≡ (a || (a || b))
 or_twice true b = refl
@@ -26,21 +33,9 @@ or_swap true true c = refl
 or_swap true false c = refl
 or_swap false b c = refl
 
-pub any-weaker : {X : Type 0} (f g : X → Bool) → ((x : X) → f x ≡ true → g x ≡ true) → (xs : List X) → list_any f xs ≡ true → list_any g xs ≡ true
-any-weaker f g weaker [] h = h
-any-weaker f g weaker (x ∷ xs) h =
-    elim (f x) as (λ b. f x ≡ b → (b || list_any f xs) ≡ true → (g x || list_any g xs) ≡ true) [
-      | true ↦ λ e _. ap (λ b. b || list_any g xs) (weaker x e)
-      | false ↦ λ _ k. or_later (g x) (list_any g xs) (any-weaker f g weaker xs k)
-    ] refl h
-
 pub any-flat_map : {X Y : Type 0} (f : Y → Bool) (h : X → List Y) (xs : List X) → list_any f (flat_map h xs) ≡ list_any (λ x. list_any f (h x)) xs
 any-flat_map f h [] = refl
 any-flat_map f h (x ∷ xs) = list_any-append f (h x) (flat_map h xs) ∙ ap (λ b. list_any f (h x) || b) (any-flat_map f h xs)
-
-pub any-map : {X Y : Type 0} (f : Y → Bool) (h : X → Y) (xs : List X) → list_any f (map h xs) ≡ list_any (λ x. f (h x)) xs
-any-map f h [] = refl
-any-map f h (x ∷ xs) = ap (λ b. f (h x) || b) (any-map f h xs)
 
 pub any-filter : {X : Type 0} (f p : X → Bool) (xs : List X) → list_any f (filter p xs) ≡ list_any (λ x. p x && f x) xs
 any-filter f p [] = refl

@@ -1,21 +1,15 @@
 -- The cells of tetrahedra that are marked, each with who has it. No text is told by these: they serve the code that writes the text of a view.
-use Rattle.std.specs.Prelude.{ℕ, ℤ, Bool, if◌then◌else◌, List, [], ◌++◌, Option, None, map}
+use Rattle.std.specs.Prelude.{ℕ, ℤ, Bool, if◌then◌else◌, List, [], Option, None, map}
 use Rattle.std.specs.declared.cmp.Ordering.{Ordering}
 use Rattle.std.specs.List.{filter, flat_map}
 use Rattle.std.specs.Option.{option_cmp, unwrap_or}
 use Rattle.std.specs.Ordering.{eq_by_cmp, nat_cmp, ordering_then}
-use Rattle.ma_geom.specs.Coordinates.{Coordinates}
 use Rattle.ma_cells.specs.Ascending.{ascending_of, has}
 use Rattle.ma_cells.specs.Cells.{CellMark, cell_cmp}
-use Rattle.ma_cells.specs.Faces.{edges_of, faces_of}
+use Rattle.ma_cells.specs.Incidence.{cells_of}
 use Rattle.ma_cells.specs.declared.cell.Cell.{Cell}
-use Rattle.ma_cells.specs.declared.cell.Cell.TheVariants.{Point, Seg, Tri}
 use Rattle.msh_write.specs.PartText.{Member, resident_tags}
 use Rattle.msh_write.specs.Text.{Element, mark_element}
-
--- the points, segments and triangles of these corners
-abbrev pub cells_of : List Coordinates → List Cell
-cells_of corners = map Point corners ++ map Seg (edges_of corners) ++ map Tri (faces_of corners)
 
 -- a cell, and None or the label of a tetrahedron that has it
 abbrev pub Holder : Type 0

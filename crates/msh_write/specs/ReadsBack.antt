@@ -1,16 +1,15 @@
 -- The text of a mesh reads as this mesh.
-use Rattle.std.specs.Prelude.{◌≡◌, ℕ, ◌-◌, ◌^◌, ◌<◌, ◌≤◌, Bool, true, not, ◌&&◌, ◌==◌, ℤ, pos, List, length, map, slice_index_or, Option, Some, Ok, All}
-use Rattle.std.specs.List.{filter, list_all, list_any}
+use Rattle.std.specs.Prelude.{◌≡◌, ℕ, ◌-◌, ◌^◌, ◌<◌, ◌≤◌, Bool, true, not, ◌&&◌, ◌==◌, List, length, map, Option, Some, Ok, All}
+use Rattle.std.specs.List.{filter, list_all}
 use Rattle.std.specs.List.Sorted.{IsStrictlySortedBy}
-use Rattle.std.specs.Option.{option_map}
 use Rattle.ma_geom.specs.Coordinates.{Coordinates, IsInRange}
-use Rattle.ma_cells.specs.Cells.{CellMark, cell_of, corners_of, is_cell}
-use Rattle.ma_cells.specs.Faces.{holds_all}
+use Rattle.ma_cells.specs.Cells.{CellMark, corners_of, is_cell, mark_on}
+use Rattle.ma_cells.specs.Incidence.{is_on}
 use Rattle.ma_cells.specs.Tetrahedron.{Tetrahedron, are_corners, tetrahedron_of}
 use Rattle.ma_cells.specs.declared.batch.Batch.{Batch}
 use Rattle.msh_read.specs.GroupNames.{GroupName, has_dimension, name_cmp}
 use Rattle.msh_read.specs.Lines.{is_tag}
-use Rattle.msh_read.specs.Raw.{Raw}
+use Rattle.msh_read.specs.Raw.{Raw, node_at}
 use Rattle.msh_read.specs.Reading.{read_of}
 use Rattle.msh_read.specs.declared.raw.RawMark.{RawMark}
 use Rattle.msh_read.specs.declared.raw.RawTet.{RawTet}
@@ -24,7 +23,7 @@ pub record IsReadable (mesh : Batch) : Type 0 where
   pub cells : All (λ mark. is_cell mark.cell ≡ true) mesh.marks
   pub tags : All (λ mark. (is_tag mark.phys && is_tag mark.elem) ≡ true) mesh.marks
   -- each mark is on a cell of a tetrahedron
-  pub on_tets : All (λ mark. list_any (λ tet. holds_all tet.corners (corners_of mark.cell)) mesh.tets ≡ true) mesh.marks
+  pub on_tets : All (λ mark. is_on mesh.tets mark.cell ≡ true) mesh.marks
   pub some : 0 < length mesh.tets
   -- nodes and elements have numbers of 32 bits
   pub few_nodes : length (nodes_of mesh.tets) ≤ 2147483647
@@ -72,18 +71,14 @@ TextReadsBack = (mesh : Batch) (names : List GroupName) → ReadsBack mesh names
 
 -- the places at these positions
 abbrev pub places_at : List Coordinates → List ℕ → List Coordinates
-places_at nodes at = map (λ i. slice_index_or nodes i (record { x = pos 0; y = pos 0; z = pos 0 })) at
+places_at nodes at = map (node_at nodes) at
 
 -- the tetrahedra that a file has, where it has any with these corners
 abbrev pub tets_in : Raw → List (Option Tetrahedron)
 tets_in raw = map (λ tet. tetrahedron_of (places_at raw.nodes tet.at) tet.phys tet.elem) raw.tets
 
--- the mark on the cell with these corners, if there is one
-abbrev pub mark_of : List Coordinates → ℤ → ℤ → Option CellMark
-mark_of places phys elem = option_map (λ cell. record { cell = cell; phys = phys; elem = elem }) (cell_of places)
-
 abbrev pub marks_in : Raw → List (Option CellMark)
-marks_in raw = map (λ mark. mark_of (places_at raw.nodes mark.at.items) mark.phys mark.elem) raw.marks
+marks_in raw = map (λ mark. mark_on (places_at raw.nodes mark.at.items) mark.phys mark.elem) raw.marks
 
 -- They are those of the mesh, where a mark with the tag 0 0 is left out.
 pub record IsMeshAgain (mesh : Batch) (raw : Raw) : Type 0 where

@@ -1,45 +1,21 @@
 // Which tetrahedra of a view have a marked cell. A list of their marked cells is sorted once, so
 // that each cell is found by a binary search.
-ghost use Rattle.std.specs.Prelude.{◌≡◌, ◌<◌, true, false, ◌++◌, All, IfNone, IfOk, IfSome, None, OnOk, drop, length, map};
+ghost use Rattle.std.specs.Prelude.{◌≡◌, ◌<◌, false, ◌++◌, IfNone, IfOk, IfSome, None, OnOk, drop, length, map};
 ghost use Rattle.std.specs.List.{HoldsAt, filter, take_while};
 ghost use Rattle.std.specs.List.Sorted.{IsStrictlySortedBy};
 ghost use Rattle.std.specs.Option.{unwrap_or};
 ghost use Rattle.std.specs.Ordering.{eq_by_cmp, nat_cmp};
-ghost use Rattle.ma_geom.specs.Coordinates.{place_cmp};
-ghost use Rattle.ma_cells.specs.Ascending.{are_ascending, ascending_of, has};
+ghost use Rattle.ma_cells.specs.Ascending.{ascending_of, has};
 ghost use Rattle.ma_cells.specs.Cells.{cell_cmp};
-ghost use Rattle.msh_write.specs.Holders.{cells_of, holder_cmp, holders_by, holders_of, is_among, is_of, marked_cells};
+ghost use Rattle.msh_write.specs.Holders.{holder_cmp, holders_by, holders_of, is_among, is_of, marked_cells};
 
 use crate::members::Member;
 use ma_cells::{Ascending, Cell, Label, Mark};
-use ma_geom::{Memory, Place};
+use ma_geom::Memory;
 use std::alloc::Global;
 
 /// A cell, and None or the label of a tetrahedron that has it.
 pub(crate) type Holder = (Cell, Option<Label>);
-
-/// The points, segments and triangles of these corners.
-fn cells(corners: [Place; 4]) -> [Cell; 14]
-    ensures { result ≡ cells_of corners }
-{
-    let [a, b, c, d] = corners;
-    [
-        Cell::Point(a),
-        Cell::Point(b),
-        Cell::Point(c),
-        Cell::Point(d),
-        Cell::Seg([a, b]),
-        Cell::Seg([a, c]),
-        Cell::Seg([a, d]),
-        Cell::Seg([b, c]),
-        Cell::Seg([b, d]),
-        Cell::Seg([c, d]),
-        Cell::Tri([a, b, c]),
-        Cell::Tri([a, b, d]),
-        Cell::Tri([a, c, d]),
-        Cell::Tri([b, c, d]),
-    ]
-}
 
 /// The cells that have a mark.
 pub(crate) fn marked_cells(alloc: Global, marks: &[Mark]) -> Result<Ascending<Cell>, Memory>
@@ -52,20 +28,18 @@ pub(crate) fn marked_cells(alloc: Global, marks: &[Mark]) -> Result<Ascending<Ce
     Ok(Ascending::gather(cells))
 }
 
-fn is_among(cells: &[Cell], cell: &Cell) -> bool
-    requires { IsStrictlySortedBy cell_cmp cells.now }
+fn is_among(cells: &Ascending<Cell>, cell: &Cell) -> bool
     ensures { result ≡ is_among cells.now cell.now }
 {
-    cells.binary_search(cell).is_ok()
+    cells.contains(cell)
 }
 
 fn add_cells(
     holders: &mut Vec<Holder>,
-    marked: &[Cell],
+    marked: &Ascending<Cell>,
     cells: &[Cell],
     label: Option<Label>,
 ) -> Result<(), Memory>
-    requires { IsStrictlySortedBy cell_cmp marked.now }
     ensures { OnOk result (holders.new.items ≡ holders.old.items ++ map (λ cell. (cell, label)) (filter (is_among marked.now) cells.now)) }
 {
     for cell in cells {
@@ -76,23 +50,23 @@ fn add_cells(
     Ok(())
 }
 
-fn add_member(holders: &mut Vec<Holder>, marked: &[Cell], member: &Member) -> Result<(), Memory>
-    requires { IsStrictlySortedBy cell_cmp marked.now }
-    ensures cells { OnOk result (holders.new.items ≡ holders.old.items ++ holders_by marked.now member.now) }
-    ensures rise { OnOk result (are_ascending place_cmp member.now.0.corners ≡ true) }
+fn add_member(
+    holders: &mut Vec<Holder>,
+    marked: &Ascending<Cell>,
+    member: &Member,
+) -> Result<(), Memory>
+    ensures { OnOk result (holders.new.items ≡ holders.old.items ++ holders_by marked.now member.now) }
 {
-    add_cells(holders, marked, &cells(member.0.corners()), member.1)
+    add_cells(holders, marked, &member.0.cells(), member.1)
 }
 
 /// The marked cells of all these tetrahedra with who has them, in n log n steps.
 pub(crate) fn holders(
     alloc: Global,
-    marked: &[Cell],
+    marked: &Ascending<Cell>,
     members: &[Member],
 ) -> Result<Ascending<Holder>, Memory>
-    requires { IsStrictlySortedBy cell_cmp marked.now }
-    ensures holders { IfOk result (λ holders. holders ≡ holders_of marked.now members.now) }
-    ensures rise { IfOk result (λ _. All (λ m. are_ascending place_cmp m.0.corners ≡ true) members.now) }
+    ensures { IfOk result (λ holders. holders ≡ holders_of marked.now members.now) }
 {
     let mut holders = Vec::new(alloc);
     for member in members {

@@ -1,7 +1,8 @@
 // Nodes and their numbers.
-ghost use Rattle.std.specs.Prelude.{◌≡◌, IfOk, length};
+ghost use Rattle.std.specs.Prelude.{◌≡◌, true, All, IfOk, length};
 ghost use Rattle.std.specs.List.Sorted.{IsStrictlySortedBy};
 ghost use Rattle.ma_geom.specs.Coordinates.{place_cmp};
+ghost use Rattle.ma_cells.specs.Ascending.{are_ascending};
 ghost use Rattle.msh_write.specs.Text.{nodes_of, number_among};
 
 use ma_cells::{Ascending, Tet};
@@ -10,7 +11,8 @@ use std::alloc::Global;
 
 /// The nodes of a mesh with these tetrahedra.
 pub(crate) fn nodes(alloc: Global, tets: &[Tet]) -> Result<Ascending<Place>, Memory>
-    ensures { IfOk result (λ nodes. nodes ≡ nodes_of tets.now) }
+    ensures nodes { IfOk result (λ nodes. nodes ≡ nodes_of tets.now) }
+    ensures corners { IfOk result (λ _. All (λ t. are_ascending place_cmp t.corners ≡ true) tets.now) }
 {
     let mut corners = Vec::new(alloc);
     for tet in tets {

@@ -3,6 +3,7 @@ ghost use Rattle.std.specs.Prelude.{◌≡◌, ◌+◌, ◌<◌, ◌^◌, ◌∷
 ghost use Rattle.std.specs.List.Sorted.{IsStrictlySortedBy};
 ghost use Rattle.std.specs.Ordering.{nat_cmp};
 ghost use Rattle.ma_geom.specs.Coordinates.{place_cmp};
+ghost use Rattle.ma_cells.specs.Ascending.{are_ascending};
 ghost use Rattle.ma_cells.specs.Cells.{corners_of, is_cell};
 ghost use Rattle.msh_write.specs.Holders.{holder_cmp, holder_element, holder_tags};
 ghost use Rattle.msh_write.specs.PartText.{member_element, part_text, resident_element, resident_tags, tets_of};
@@ -171,14 +172,15 @@ fn put_marks(
     members: &[Member],
     marks: &[Mark],
 ) -> Result<(), Memory>
-    requires { IsStrictlySortedBy place_cmp nodes.now }
+    requires rises { IsStrictlySortedBy place_cmp nodes.now }
+    requires corners { All (λ m. are_ascending place_cmp m.0.corners ≡ true) members.now }
     ensures { OnOk result (out.new.items ≡ out.old.items ++ ended (numbered (λ number mark. element_line nodes.now number (resident_element part members.now mark)) marks.now)) }
 {
     if marks.is_empty() {
         return Ok(());
     }
     let marked = marked_cells(alloc, marks)?;
-    let holders = holders(alloc, marked.as_slice(), members)?;
+    let holders = holders(alloc, &marked, members)?;
     put_mark_lines(alloc, out, nodes, part, holders.as_slice(), marks)
 }
 
@@ -192,6 +194,7 @@ fn put_elements(
 ) -> Result<(), Memory>
     requires rises { IsStrictlySortedBy place_cmp nodes.now }
     requires nodes { nodes.now ≡ nodes_of (tets_of members.now) }
+    requires corners { All (λ m. are_ascending place_cmp m.0.corners ≡ true) members.now }
     ensures { OnOk result (out.new.items ≡ out.old.items ++ ended (counted_section (codes "Elements") (numbered (element_line nodes.now) (map (resident_element part members.now) marks.now ++ map (member_element part) members.now)))) }
 {
     put_bytes(out, b"$Elements\n")?;

@@ -13,7 +13,7 @@ use Rattle.ma_geom.proofs.PlaceOrder.{place_cmp-IsAntisymmetric, place_cmp_total
 use Rattle.ma_cells.specs.Ascending.{are_ascending, ascending_of}
 use Rattle.ma_cells.specs.Bisection.{bisect}
 use Rattle.ma_cells.specs.Faces.{edges_of}
-use Rattle.ma_cells.specs.Tetrahedron.{Tetrahedron, are_corners}
+use Rattle.ma_cells.specs.Tetrahedron.{Tetrahedron, are_corners, are_tetrahedra}
 use Rattle.ma_cells.specs.declared.batch.Batch.{Batch}
 use Rattle.ma_cells.proofs.CellOrders.{tet_cmp-IsAntisymmetric}
 use Rattle.ma_cells.proofs.Choices.{choices-ascend}
@@ -22,20 +22,20 @@ use Rattle.ma_cover.specs.Cover.{whole_cover}
 use Rattle.ma_cover.specs.Inside.{is_inside}
 use Rattle.ma_cover.specs.OnFaces.{IsOffFacesOf}
 use Rattle.ma_cover.proofs.Covers.{bisect_inside}
-use Rattle.ma_cover.proofs.Pieces.{pieces_are_corners}
+use Rattle.ma_cells.proofs.Pieces.{pieces_are_corners}
 use Rattle.ma_cover.proofs.WholeFaces.{off_pieces_is_off_whole}
 use Rattle.size_marks.specs.Field.{Field}
 use Rattle.split_templates.specs.Edges.{edge_cmp, is_long_edge}
 use Rattle.split_templates.specs.Pieces.{bisected_along, halves, halves_at, pieces_of}
 use Rattle.split_templates.proofs.Middles.{midpoint-IsMiddle}
-use Rattle.split_templates.proofs.Sets.{all-ascending_of}
 use Rattle.one_mesh.specs.Adaptation.{adapted}
-use Rattle.one_mesh.specs.Laws.{KeepsCover, are_tetrahedra}
+use Rattle.one_mesh.specs.Laws.{KeepsCover}
 use Rattle.one_mesh.specs.Refinement.{long_edges, refine, refined_tet}
 use Rattle.one_mesh.proofs.Counts.{all_of_map, count-map, count-none, count-weaker}
-use Rattle.one_mesh.proofs.Passing.{all-filter, all-map, all_pass}
+use Rattle.ma_cells.proofs.Passing.{all-filter, all-map, all_pass}
 use Rattle.one_mesh.proofs.Solid.{rounds_are_solid}
 use Rattle.one_mesh.proofs.Keeping.{Keeps, as_few, keeps-each, keeps-itself, keeps-set, keeps-then}
+use Rattle.ma_cells.proofs.SetItems.{all-ascending_of}
 
 -- ---- edges with their ends in ascending order
 abbrev Rises : List Coordinates → Type 0

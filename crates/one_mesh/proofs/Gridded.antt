@@ -1,5 +1,6 @@
 -- A mesh on the grid of 2^(k+1) is on that of 2^k once it is refined.
-use Rattle.std.proofs.Common.{◌≡◌, ℕ, zero, suc, ◌+◌, Bool, true, false, cond, ◌&&◌, List, [], ◌∷◌, Some, None, refl, subst, arith}
+use Rattle.std.proofs.Common.{◌≡◌, ℕ, zero, suc, ◌+◌, true, false, cond, ◌&&◌, List, [], ◌∷◌, Some, None, refl, subst, arith}
+use Rattle.std.proofs.lemmas.Bool.{and_from, and_parts}
 use Rattle.std.specs.Prelude.{map}
 use Rattle.std.specs.Cmp.Lexicographic.{slice_cmp}
 use Rattle.std.specs.List.{AllByRecursion, flat_map, list_all}
@@ -18,13 +19,13 @@ use Rattle.size_marks.specs.Field.{Field}
 use Rattle.split_templates.specs.Edges.{edge_cmp, is_long_edge}
 use Rattle.split_templates.specs.Pieces.{bisected_along, halves, halves_at, is_straight, pieces_of}
 use Rattle.split_templates.proofs.Middles.{midpoint-IsMiddle}
-use Rattle.split_templates.proofs.Sets.{all-ascending_of}
 use Rattle.one_mesh.specs.Adaptation.{adapted}
-use Rattle.one_mesh.specs.Grid.{are_on_grid, is_multiple, is_on_grid, marks_are_on_grid, mesh_is_on_grid}
+use Rattle.ma_cells.specs.Grid.{are_on_grid, is_multiple, is_on_grid, marks_are_on_grid, mesh_is_on_grid}
 use Rattle.one_mesh.specs.Laws.{RefinementHalvesTheGrid, RoundsHalveTheGrid}
 use Rattle.one_mesh.specs.Refinement.{long_edges, refine, refined_cell, refined_mark, refined_tet}
 use Rattle.one_mesh.proofs.Multiples.{is_multiple-half, is_multiple-halfway}
-use Rattle.one_mesh.proofs.Passing.{all-filter, all-flat_map, all-map, all_pass, all_weaker, both_pass, test_all}
+use Rattle.ma_cells.proofs.Passing.{all-filter, all-flat_map, all-map, all_pass, all_weaker, test_all}
+use Rattle.ma_cells.proofs.SetItems.{all-ascending_of}
 
 abbrev Corners : (Coordinates → Type 0) → List Coordinates → Type 0
 Corners P corners = AllByRecursion P corners
@@ -72,8 +73,8 @@ IsOn k p = is_on_grid k p ≡ true
 
 by_coordinates : (k : ℕ) (p : Coordinates) → IsOn k p → (is_multiple k p.x ≡ true) × (is_multiple k p.y ≡ true) × (is_multiple k p.z ≡ true)
 by_coordinates k p h =
-    let first = both_pass (is_multiple k p.x && is_multiple k p.y) (is_multiple k p.z) h in
-    let second = both_pass (is_multiple k p.x) (is_multiple k p.y) first.0 in
+    let first = and_parts (is_multiple k p.x && is_multiple k p.y) (is_multiple k p.z) h in
+    let second = and_parts (is_multiple k p.x) (is_multiple k p.y) first.0 in
     (second.0, second.1, first.1)
 
 on_grid : (k : ℕ) (p : Coordinates) → is_multiple k p.x ≡ true → is_multiple k p.y ≡ true → is_multiple k p.z ≡ true → IsOn k p
@@ -157,14 +158,11 @@ refined_marks_on k field marks h =
     marks_test k (ascending_of mark_cmp pieces) (all-ascending_of mark_cmp (MarkIsOn k) pieces
     (all-flat_map (MarkIsOn (suc k)) (MarkIsOn k) (refined_mark field) (refined_mark_on k field) marks (marks_from (suc k) marks h)))
 
-all_two : (a b : Bool) → a ≡ true → b ≡ true → (a && b) ≡ true
-all_two a b e f = rw (e, f) refl
-
 pub refinement_halves_the_grid : RefinementHalvesTheGrid
 refinement_halves_the_grid k field mesh h =
-    let both = both_pass (are_on_grid (suc k) mesh.tets) (marks_are_on_grid (suc k) mesh.marks) h in
+    let both = and_parts (are_on_grid (suc k) mesh.tets) (marks_are_on_grid (suc k) mesh.marks) h in
     let refined = refine field mesh in
-    all_two (are_on_grid k refined.tets) (marks_are_on_grid k refined.marks) (refined_tets_on k field mesh.tets both.0) (refined_marks_on k field mesh.marks both.1)
+    and_from (are_on_grid k refined.tets) (marks_are_on_grid k refined.marks) (refined_tets_on k field mesh.tets both.0) (refined_marks_on k field mesh.marks both.1)
 
 one_finer : (k rounds : ℕ) → k + suc rounds ≡ suc k + rounds
 one_finer k rounds = omega arith

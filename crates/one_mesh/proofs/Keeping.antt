@@ -5,8 +5,8 @@ use Rattle.std.specs.FinMap.{IsAntisymmetric}
 use Rattle.std.specs.List.{AllByRecursion, count_by, flat_map}
 use Rattle.ma_cells.specs.Ascending.{ascending_of}
 use Rattle.ma_cells.proofs.Choices.{all-append}
-use Rattle.split_templates.proofs.Sets.{all-ascending_of}
 use Rattle.one_mesh.proofs.Counts.{all_left, all_of_set, all_right, count-append, count-set}
+use Rattle.ma_cells.proofs.SetItems.{all-ascending_of}
 
 -- The pieces are solid. What is off all pieces is off all cells, and then as many pieces as cells pass the test, where at most one cell does
 pub record Keeps {K : Type 0} (IsSolid IsOff : K → Type 0) (f : K → Bool) (cells pieces : List K) : Type 0 where

@@ -1,4 +1,3 @@
-pub mod Passing
 pub mod Rising
 pub mod Marked
 pub mod Solid

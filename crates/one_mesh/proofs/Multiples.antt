@@ -4,7 +4,7 @@ use Rattle.std.specs.Prelude.{ℤ, ◌+ℤ◌, unsigned_abs}
 use Rattle.std.proofs.Math.Nat.{div-add-mod, mul-add, mul-mod_right, mul-sub, mul_assoc}
 use Rattle.std.proofs.lemmas.Bool.Decides.{nat_tests}
 use Rattle.std.proofs.lemmas.Int.{ints}
-use Rattle.one_mesh.specs.Grid.{is_multiple}
+use Rattle.ma_cells.specs.Grid.{is_multiple}
 
 zero_test : (n : ℕ) → eqb n 0 ≡ true → n ≡ 0
 zero_test n h = grind (arith, nat_tests)

@@ -12,8 +12,8 @@ use Rattle.ma_cells.specs.Faces.{holds_all}
 use Rattle.ma_cells.proofs.Bisections.{replaced-ascends}
 use Rattle.split_templates.specs.Edges.{edge_cmp}
 use Rattle.split_templates.specs.Pieces.{bisected_along, halves, halves_at, pieces_of}
-use Rattle.split_templates.proofs.Sets.{all-ascending_of}
-use Rattle.one_mesh.proofs.Passing.{all-flat_map}
+use Rattle.ma_cells.proofs.Passing.{all-flat_map}
+use Rattle.ma_cells.proofs.SetItems.{all-ascending_of}
 
 -- that the corners of a piece ascend
 abbrev pub Rises : List Coordinates → Type 0

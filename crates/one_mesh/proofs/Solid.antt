@@ -10,12 +10,12 @@ use Rattle.size_marks.specs.Field.{Field}
 use Rattle.split_templates.specs.Edges.{is_long_edge, mask_of}
 use Rattle.split_templates.specs.Pieces.{pieces_of}
 use Rattle.split_templates.proofs.Masks.{chosen-mask_of}
-use Rattle.split_templates.proofs.Sets.{all-ascending_of}
 use Rattle.split_templates.proofs.Tetrahedra.{all_are_corners}
 use Rattle.one_mesh.specs.Adaptation.{adapted}
 use Rattle.one_mesh.specs.Laws.{RefinementIsSolid, RoundsAreSolid}
 use Rattle.one_mesh.specs.Refinement.{long_edges, refined_tet}
-use Rattle.one_mesh.proofs.Passing.{all-flat_map, all_pass, test_all}
+use Rattle.ma_cells.proofs.Passing.{all-flat_map, all_pass, test_all}
+use Rattle.ma_cells.proofs.SetItems.{all-ascending_of}
 
 pub pieces_are_corners : (field : Field) (corners : List Coordinates) → are_corners corners ≡ true → list_all are_corners (pieces_of (long_edges field corners) corners) ≡ true
 pieces_are_corners field corners h =

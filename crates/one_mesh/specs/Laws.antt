@@ -1,19 +1,14 @@
 -- What refinement keeps.
-use Rattle.std.specs.Prelude.{ℕ, suc, ◌+◌, ◌≤◌, ◌≡◌, ℤ, Bool, true, List}
-use Rattle.std.specs.List.{list_all}
+use Rattle.std.specs.Prelude.{ℕ, suc, ◌+◌, ◌≤◌, ◌≡◌, ℤ, true}
 use Rattle.ma_geom.specs.Rational.{Rational}
-use Rattle.ma_cells.specs.Tetrahedron.{Tetrahedron, are_corners}
+use Rattle.ma_cells.specs.Tetrahedron.{are_tetrahedra}
 use Rattle.ma_cells.specs.declared.batch.Batch.{Batch}
 use Rattle.ma_cover.specs.Cover.{cover, whole_cover}
 use Rattle.ma_cover.specs.OnFaces.{IsOffFaces}
 use Rattle.size_marks.specs.Field.{Field}
 use Rattle.one_mesh.specs.Adaptation.{adapted}
-use Rattle.one_mesh.specs.Grid.{mesh_is_on_grid}
+use Rattle.ma_cells.specs.Grid.{mesh_is_on_grid}
 use Rattle.one_mesh.specs.Refinement.{refine}
-
--- whether the corners of each are those of a tetrahedron: four that ascend and aren't flat
-abbrev pub are_tetrahedra : List Tetrahedron → Bool
-are_tetrahedra tets = list_all (λ tet. are_corners tet.corners) tets
 
 -- A mesh n made of a mesh m keeps its cover. A point that is on no closed face of n is on none of m, and where it is within at most one tetrahedron of m, it is within as many tetrahedra of each region of n as of m, and of n as of m
 pub record KeepsCover (m n : Batch) : Type 0 where

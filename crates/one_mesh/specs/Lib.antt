@@ -1,6 +1,5 @@
 pub mod Refinement
 pub mod Adaptation
-pub mod Grid
 pub mod Laws
 pub mod Holding
 pub mod Rounds

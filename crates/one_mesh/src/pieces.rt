@@ -4,7 +4,7 @@ ghost use Rattle.ma_geom.specs.Coordinates.{place_cmp};
 ghost use Rattle.ma_cells.specs.Ascending.{are_ascending};
 ghost use Rattle.ma_cells.specs.Cells.{is_cell};
 ghost use Rattle.ma_cells.specs.declared.cell.Cell.TheVariants.{Seg, Tri};
-ghost use Rattle.one_mesh.specs.Laws.{are_tetrahedra};
+ghost use Rattle.ma_cells.specs.Tetrahedron.{are_tetrahedra};
 ghost use Rattle.one_mesh.specs.Refinement.{long_edges, refined_mark, refined_tet};
 ghost use Rattle.split_templates.specs.Pieces.{is_straight, pieces_of};
 

@@ -1,9 +1,10 @@
 // A mesh in one piece.
 ghost use Rattle.std.specs.Prelude.{ℕ, suc, ◌≡◌, false, true, IfOk, OnOk, OnErr};
 ghost use Rattle.ma_cells.specs.Ascending.{ascending_of};
-ghost use Rattle.one_mesh.specs.Grid.{mesh_is_on_grid};
+ghost use Rattle.ma_cells.specs.Grid.{mesh_is_on_grid};
 ghost use Rattle.one_mesh.specs.Holding.{set_of};
-ghost use Rattle.one_mesh.specs.Laws.{KeepsCover, are_tetrahedra};
+ghost use Rattle.ma_cells.specs.Tetrahedron.{are_tetrahedra};
+ghost use Rattle.one_mesh.specs.Laws.{KeepsCover};
 ghost use Rattle.one_mesh.specs.Refinement.{refine};
 ghost use Rattle.one_mesh.specs.Rounds.{EndsRound};
 
@@ -28,7 +29,7 @@ pub struct OneMesh {
 impl Model for OneMesh {
     ghost use Rattle.std.specs.Prelude.{◌≡◌, true};
     ghost use Rattle.one_mesh.specs.Holding.{Holding};
-    ghost use Rattle.one_mesh.specs.Laws.{are_tetrahedra};
+    ghost use Rattle.ma_cells.specs.Tetrahedron.{are_tetrahedra};
 
     ghost Value = { Holding };
 

@@ -5,17 +5,14 @@ use Rattle.std.proofs.lemmas.List.Folds.{list_any-append}
 use Rattle.ma_geom.specs.Coordinates.{Coordinates}
 use Rattle.ma_geom.specs.Volume.{cross}
 use Rattle.overlap_check.specs.Forms.{products}
-
-list_any-map : {X Y : Type 0} (p : Y → Bool) (f : X → Y) (xs : List X) → list_any p (map f xs) ≡ list_any (λ x. p (f x)) xs
-list_any-map p f [] = refl
-list_any-map p f (x ∷ xs) = ap (λ b. p (f x) || b) (list_any-map p f xs)
+use Rattle.ma_cells.proofs.Passing.{any-map}
 
 -- a test on products is one on each vector of the one list with each of the other
 pub list_any-products : (p : Coordinates → Bool) (us vs : List Coordinates) → list_any p (products us vs) ≡ list_any (λ u. list_any (λ v. p (cross u v)) vs) us
 list_any-products p [] vs = refl
 list_any-products p (u ∷ us) vs =
     list_any-append p (map (cross u) vs) (products us vs)
-    ∙ ap (λ b. b || list_any p (products us vs)) (list_any-map p (cross u) vs)
+    ∙ ap (λ b. b || list_any p (products us vs)) (any-map p (cross u) vs)
     ∙ ap (λ b. list_any (λ v. p (cross u v)) vs || b) (list_any-products p us vs)
 
 -- the test of two lists, the first of which settles it

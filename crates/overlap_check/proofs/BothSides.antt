@@ -1,5 +1,5 @@
 -- Two separated tetrahedra with a face in common lie on different sides of it: the form that parts them is one number over the face.
-use Rattle.std.proofs.Common.{◌≡◌, ◌≢◌, ◌⊎◌, inl, inr, Bool, true, false, not, ◌&&◌, List, [], ◌∷◌, refl, sym, ap, subst, ◌∙◌, arith}
+use Rattle.std.proofs.Common.{◌≡◌, ◌≢◌, inl, inr, Bool, true, false, not, ◌&&◌, List, [], ◌∷◌, refl, sym, ap, subst, ◌∙◌, arith}
 use Rattle.std.specs.Prelude.{ℤ, pos, neg_ℤ, ◌+ℤ◌, ◌-ℤ◌, ◌*ℤ◌, ◌<ℤ◌, int_le, map}
 use Rattle.std.specs.List.{list_all}
 use Rattle.std.specs.List.Sorted.{IsPermutation}
@@ -16,11 +16,13 @@ use Rattle.ma_geom.proofs.Reified.{dot', place, places, vol6'}
 use Rattle.ma_geom.proofs.Ring.{neg, var, ◌⊕◌, ◌⊖◌, ◌⊗◌, entry, ring}
 use Rattle.ma_cells.specs.Ascending.{are_ascending}
 use Rattle.ma_cells.specs.Tetrahedron.{are_corners}
+use Rattle.ma_cover.specs.Sound.{LieOnBothSides}
 use Rattle.ma_cover.specs.Inside.{are_alike}
-use Rattle.ma_cover.proofs.Pieces.{solid_corners}
+use Rattle.ma_cells.proofs.Pieces.{solid_corners}
 use Rattle.overlap_check.specs.Overlap.{are_separated, is_below}
 use Rattle.overlap_check.proofs.FormValues.{level_is_zero}
 use Rattle.overlap_check.proofs.InnerPoints.{parted}
+use Rattle.ma_cover.proofs.Halves.{either_way}
 
 -- ---- a form over five places
 crossed : (n u v w d e : Coordinates)
@@ -47,8 +49,6 @@ without_face l r s t fu fv fw e at_v at_w =
     nothing r s t = omega (arith, ints)
 
 -- ---- signs
-either_way : (v : ℤ) → v ≢ pos 0 → (pos 0 <ℤ v) ⊎ (pos 0 <ℤ neg_ℤ v)
-either_way v h = grind (arith, ints)
 
 both_turned : (x v : ℤ) → v *ℤ x ≡ neg_ℤ x *ℤ neg_ℤ v
 both_turned x v = ring (entry (x ∷ v ∷ [])) (var 1 ⊗ var 0) (neg (var 0) ⊗ neg (var 1)) tt
@@ -127,10 +127,8 @@ solid u v w d corners are order =
     not_flat true false e = refl
     not_flat false t e = absurd (false≢true e)
 
-pub separated_lie_on_both_sides : (u v w d e : Coordinates) (a b : List Coordinates) → are_corners a ≡ true → are_corners b ≡ true
-    → IsPermutation (u ∷ v ∷ w ∷ d ∷ []) a → IsPermutation (u ∷ v ∷ w ∷ e ∷ []) b → are_separated a b ≡ true
-    → are_alike (vol6 u v w d) (neg_ℤ (vol6 u v w e)) ≡ true
-separated_lie_on_both_sides u v w d e a b are_a are_b order_a order_b apart =
+pub separated_lie_on_both_sides : (a b : List Coordinates) → are_corners a ≡ true → are_corners b ≡ true → are_separated a b ≡ true → LieOnBothSides a b
+separated_lie_on_both_sides a b are_a are_b apart u v w d e order_a order_b =
     let by = parted a b apart in
     let solid_d = solid u v w d a are_a order_a in
     let solid_e = solid u v w e b are_b order_b in

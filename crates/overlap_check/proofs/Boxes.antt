@@ -1,7 +1,7 @@
 -- Tetrahedra whose boxes don't meet are separated.
 use Rattle.std.proofs.Common.{◌≡◌, ◌<◌, ◌≤◌, get_or, inl, inr, ℕ, Bool, true, false, List, [], length, min, max, refl, sym, ap, subst, ◌∙◌, arith}
 use Rattle.std.specs.Prelude.{not, ◌&&◌, nat_lt}
-use Rattle.std.proofs.lemmas.Bool.{cases_lt}
+use Rattle.std.proofs.lemmas.Bool.{and_cases, and_parts, cases_lt, not-true, or_left, or_right}
 use Rattle.std.proofs.lemmas.Bool.Decides.{nat_tests}
 use Rattle.std.proofs.lemmas.List.{get_or-map}
 use Rattle.ma_geom.specs.Coordinates.{Coordinates}
@@ -10,25 +10,25 @@ use Rattle.overlap_check.specs.Forms.{x_axis, y_axis, z_axis}
 use Rattle.overlap_check.specs.Overlap.{are_separated, is_apart}
 use Rattle.overlap_check.specs.Sweep.{IsBox, IsReach, are_overlapping, boxes_meet, corners_at, do_overlap, spans_meet}
 use Rattle.overlap_check.specs.declared.reach.Reach.{Reach}
-use Rattle.overlap_check.proofs.Spans.{both, fails_one, or_first, or_second, spans_apart}
+use Rattle.overlap_check.proofs.Spans.{spans_apart}
 
 -- one coordinate that parts them is enough
 by_x : (a b : List Coordinates) → is_apart x_axis a b ≡ true → are_separated a b ≡ true
 unfolding are_separated
-by_x a b h = or_first (is_apart x_axis a b) _ h
+by_x a b h = or_left (is_apart x_axis a b) _ h
 
 by_y : (a b : List Coordinates) → is_apart y_axis a b ≡ true → are_separated a b ≡ true
 unfolding are_separated
-by_y a b h = or_second (is_apart x_axis a b) _ (or_first (is_apart y_axis a b) _ h)
+by_y a b h = or_right (is_apart x_axis a b) _ (or_left (is_apart y_axis a b) _ h)
 
 by_z : (a b : List Coordinates) → is_apart z_axis a b ≡ true → are_separated a b ≡ true
 unfolding are_separated
-by_z a b h = or_second (is_apart x_axis a b) _ (or_second (is_apart y_axis a b) _ (or_first (is_apart z_axis a b) _ h))
+by_z a b h = or_right (is_apart x_axis a b) _ (or_right (is_apart y_axis a b) _ (or_left (is_apart z_axis a b) _ h))
 
 pub boxes_apart : (a b : List Coordinates) (r s : Reach) → IsBox a r → IsBox b s → boxes_meet r s ≡ false → (are_separated a b ≡ true) × (are_separated b a ≡ true)
-boxes_apart a b r s left right h = elim (fails_one (spans_meet r.x s.x) (spans_meet r.y s.y && spans_meet r.z s.z) h) [
+boxes_apart a b r s left right h = elim (and_cases (spans_meet r.x s.x) (spans_meet r.y s.y && spans_meet r.z s.z) h) [
   | inl k ↦ (let e = spans_apart x_axis a b r.x s.x left.x right.x k in (by_x a b e.0, by_x b a e.1))
-  | inr m ↦ elim (fails_one (spans_meet r.y s.y) (spans_meet r.z s.z) m) [
+  | inr m ↦ elim (and_cases (spans_meet r.y s.y) (spans_meet r.z s.z) m) [
     | inl k ↦ (let e = spans_apart y_axis a b r.y s.y left.y right.y k in (by_y a b e.0, by_y b a e.1))
     | inr k ↦ (let e = spans_apart z_axis a b r.z s.z left.z right.z k in (by_z a b e.0, by_z b a e.1))
   ]
@@ -56,13 +56,9 @@ below m n h = grind (arith, nat_tests)
 pub overlap_tells : (tets : List Tetrahedron) (i j : ℕ) → are_overlapping tets i j ≡ true → (i < j) × (j < length tets) × (are_separated (corners_at tets i) (corners_at tets j) ≡ false)
 unfolding are_overlapping
 overlap_tells tets i j h =
-    let outer = both (nat_lt i j) (nat_lt j (length tets) && not (are_separated (corners_at tets i) (corners_at tets j))) h in
-    let inner = both (nat_lt j (length tets)) (not (are_separated (corners_at tets i) (corners_at tets j))) outer.1 in
-    (below i j outer.0, below j (length tets) inner.0, turned (are_separated (corners_at tets i) (corners_at tets j)) inner.1)
-  where
-    turned : (b : Bool) → not b ≡ true → b ≡ false
-    turned true h = sym h
-    turned false h = refl
+    let outer = and_parts (nat_lt i j) (nat_lt j (length tets) && not (are_separated (corners_at tets i) (corners_at tets j))) h in
+    let inner = and_parts (nat_lt j (length tets)) (not (are_separated (corners_at tets i) (corners_at tets j))) outer.1 in
+    (below i j outer.0, below j (length tets) inner.0, not-true (are_separated (corners_at tets i) (corners_at tets j)) inner.1)
 
 pub differ : (b : Bool) → b ≡ true → b ≡ false → ⊥
 differ b h k = cc

@@ -2,7 +2,7 @@
 use Rattle.std.proofs.Common.{◌≡◌, ◌≢◌, ◌⊎◌, inl, inr, Bool, true, false, not, ◌&&◌, ◌||◌, List, [], ◌∷◌, refl, sym, ap, subst, ◌∙◌, arith}
 use Rattle.std.specs.Prelude.{ℤ, pos, neg_ℤ, ◌+ℤ◌, ◌-ℤ◌, ◌*ℤ◌, ◌≤ℤ◌, ◌<ℤ◌, int_le, map}
 use Rattle.std.specs.List.{list_all, list_any}
-use Rattle.std.proofs.lemmas.Bool.{false≢true}
+use Rattle.std.proofs.lemmas.Bool.{and_parts, false≢true, or_cases}
 use Rattle.std.proofs.lemmas.Int.{ints}
 use Rattle.ma_geom.specs.Coordinates.{Coordinates}
 use Rattle.ma_geom.specs.Lines.{is_zero}
@@ -15,6 +15,8 @@ use Rattle.ma_cover.specs.Inside.{are_alike, is_beside, is_inside}
 use Rattle.overlap_check.specs.Forms.{forms}
 use Rattle.overlap_check.specs.Overlap.{are_apart, are_separated, is_apart, is_below}
 use Rattle.overlap_check.proofs.FormValues.{level_is_zero, value_at, value_mean}
+use Rattle.ma_cover.proofs.Halves.{weaker}
+use Rattle.ma_cover.proofs.OffFaces.{all_four}
 
 -- ---- a point within a tetrahedron is a mean of its corners, all of which weigh something
 pub record IsInner (p : Rational) (corners : List Coordinates) : Type 0 where
@@ -81,13 +83,6 @@ weights_sum V A B C D w va vb vc turn_a turn_b turn_c sum =
     ∙ ap (λ t. V *ℤ t) sum
     ∙ ring (entry (V ∷ w ∷ [])) (var 0 ⊗ (var 1 ⊗ var 0)) ((var 0 ⊗ var 0) ⊗ var 1) tt)
 
-all_four : (s t u v : Bool) → (s && t && u && v) ≡ true → (s ≡ true) × (t ≡ true) × (u ≡ true) × (v ≡ true)
-all_four true true true true e = (refl, refl, refl, refl)
-all_four true true true false e = absurd (false≢true e)
-all_four true true false v e = absurd (false≢true e)
-all_four true false u v e = absurd (false≢true e)
-all_four false t u v e = absurd (false≢true e)
-
 inner_four : (p : Rational) (a b c d : Coordinates) → is_inside p (a ∷ b ∷ c ∷ d ∷ []) ≡ true → IsInner p (a ∷ b ∷ c ∷ d ∷ [])
 inner_four p a b c d h =
     let all = all_four (is_beside b c d a p) (is_beside a c d b p) (is_beside a b d c p) (is_beside a b c d p) h in
@@ -132,9 +127,6 @@ term i u h k = elim (zero_or_more u k) [ inl e ↦ inl e | inr more ↦ inr (pos
   where
     zero_or_more : (u : ℤ) → pos 0 ≤ℤ u → (u ≡ pos 0) ⊎ (pos 0 <ℤ u)
     zero_or_more u k = grind (arith, ints)
-
-weaker : (i : ℤ) → pos 0 <ℤ i → pos 0 ≤ℤ i
-weaker i h = omega (arith, ints)
 
 -- four terms, not all of them zero
 some_term : (u v s t U V S T : ℤ) → (u ≡ pos 0) ⊎ (pos 0 <ℤ U) → (v ≡ pos 0) ⊎ (pos 0 <ℤ V) → (s ≡ pos 0) ⊎ (pos 0 <ℤ S) → (t ≡ pos 0) ⊎ (pos 0 <ℤ T)
@@ -238,15 +230,11 @@ columns : (vs : List ℤ) (a b c d : ℤ) → is_below vs (a ∷ b ∷ c ∷ d �
     → (list_all (λ v. int_le v a) vs ≡ true) × (list_all (λ v. int_le v b) vs ≡ true) × (list_all (λ v. int_le v c) vs ≡ true) × (list_all (λ v. int_le v d) vs ≡ true)
 columns [] a b c d h = (refl, refl, refl, refl)
 columns (v ∷ vs) a b c d h =
-    let parts = both (list_all (int_le v) (a ∷ b ∷ c ∷ d ∷ [])) (is_below vs (a ∷ b ∷ c ∷ d ∷ [])) h in
+    let parts = and_parts (list_all (int_le v) (a ∷ b ∷ c ∷ d ∷ [])) (is_below vs (a ∷ b ∷ c ∷ d ∷ [])) h in
     let row = four_pass (int_le v) a b c d parts.0 in
     let rest = columns vs a b c d parts.1 in
     (pair row.0 rest.0, pair row.1 rest.1, pair row.2 rest.2, pair row.3 rest.3)
   where
-    both : (s t : Bool) → (s && t) ≡ true → (s ≡ true) × (t ≡ true)
-    both true t e = (refl, e)
-    both false t e = absurd (false≢true e)
-
     pair : {s t : Bool} → s ≡ true → t ≡ true → (s && t) ≡ true
     pair e f = rw (e, f) refl
 
@@ -281,15 +269,11 @@ parted a b h =
     let found = passing (λ n. is_apart n a b) (forms a b) h in
     let n = found.0 in
     let parts = both (is_zero n) (are_apart (map (dot n) a) (map (dot n) b)) found.1 in
-    record { n = n; slanted = parts.0; below = either (is_below (map (dot n) a) (map (dot n) b)) (is_below (map (dot n) b) (map (dot n) a)) parts.1 }
+    record { n = n; slanted = parts.0; below = or_cases (is_below (map (dot n) a) (map (dot n) b)) (is_below (map (dot n) b) (map (dot n) a)) parts.1 }
   where
     both : (s t : Bool) → (not s && t) ≡ true → (s ≡ false) × (t ≡ true)
     both true t e = absurd (false≢true e)
     both false t e = (refl, e)
-
-    either : (s t : Bool) → (s || t) ≡ true → (s ≡ true) ⊎ (t ≡ true)
-    either true t e = inl refl
-    either false t e = inr e
 
 pub separated_share_no_point : (p : Rational) (a b : List Coordinates) → are_separated a b ≡ true → is_inside p a ≡ true → is_inside p b ≡ true → ⊥
 separated_share_no_point p a b h in_a in_b =

@@ -1,6 +1,7 @@
 -- Spans around the values of a form.
-use Rattle.std.proofs.Common.{◌≡◌, ◌≤◌, ◌^◌, sym, ◌⊎◌, inl, inr, Bool, true, false, List, [], ◌∷◌, length, map, get_or, refl, ap, ◌∙◌, arith}
-use Rattle.std.specs.Prelude.{ℤ, ◌≤ℤ◌, ◌&&◌, ◌||◌, int_le, int_lt, FitsSigned, unsigned_abs}
+use Rattle.std.proofs.Common.{◌≡◌, ◌≤◌, ◌^◌, sym, inl, inr, true, false, List, [], ◌∷◌, length, map, get_or, refl, ap, ◌∙◌, arith}
+use Rattle.std.proofs.lemmas.Bool.{and_cases, and_from, and_parts, or_left, or_right}
+use Rattle.std.specs.Prelude.{ℤ, ◌≤ℤ◌, ◌&&◌, int_le, int_lt, FitsSigned, unsigned_abs}
 use Rattle.std.specs.List.{list_all}
 use mir.Syntax.{w32}
 use mir.Val.{to_z, of_z}
@@ -12,25 +13,6 @@ use Rattle.overlap_check.specs.Overlap.{are_apart, is_below}
 use Rattle.overlap_check.specs.Sweep.{IsSpan, is_within, spans_meet}
 use Rattle.overlap_check.specs.declared.reach.Span.{Span}
 use Rattle.overlap_check.proofs.Values.{dot-x_axis, dot-y_axis, dot-z_axis, four}
-
--- ---- tests that hold together
-pub both : (a b : Bool) → (a && b) ≡ true → (a ≡ true) × (b ≡ true)
-both true b h = (refl, h)
-both false b h = absurd (cc)
-
-pub together : (a b : Bool) → a ≡ true → b ≡ true → (a && b) ≡ true
-together a b h k = λ i. h i && k i
-
-pub fails_one : (a b : Bool) → (a && b) ≡ false → (a ≡ false) ⊎ (b ≡ false)
-fails_one true b h = inr h
-fails_one false b h = inl refl
-
-pub or_first : (a b : Bool) → a ≡ true → (a || b) ≡ true
-or_first a b h = λ i. h i || b
-
-pub or_second : (a b : Bool) → b ≡ true → (a || b) ≡ true
-or_second true b h = refl
-or_second false b h = h
 
 -- ---- spans
 pub within_ends : (l h v : ℤ) → FitsSigned w32 l → FitsSigned w32 h → l ≤ℤ v → v ≤ℤ h → (int_le (to_z w32 (of_z w32 l)) v && int_le v (to_z w32 (of_z w32 h))) ≡ true
@@ -59,9 +41,9 @@ within_z p v s e near h = ap (is_within s) (dot-z_axis p ∙ sym e ∙ sym (stor
 under : (v : ℤ) (ws : List ℤ) (t : Span) → v ≤ℤ t.low → list_all (is_within t) ws ≡ true → list_all (λ w. int_le v w) ws ≡ true
 under v [] t h all = refl
 under v (w ∷ ws) t h all =
-    let parts = both (is_within t w) (list_all (is_within t) ws) all in
-    let ends = both (int_le t.low w) (int_le w t.high) parts.0 in
-    together (int_le v w) (list_all (λ x. int_le v x) ws) (through v t.low w h ends.0) (under v ws t h parts.1)
+    let parts = and_parts (is_within t w) (list_all (is_within t) ws) all in
+    let ends = and_parts (int_le t.low w) (int_le w t.high) parts.0 in
+    and_from (int_le v w) (list_all (λ x. int_le v x) ws) (through v t.low w h ends.0) (under v ws t h parts.1)
   where
     through : (x y z : ℤ) → x ≤ℤ y → int_le y z ≡ true → int_le x z ≡ true
     through x y z h k = grind (arith, ints)
@@ -69,9 +51,9 @@ under v (w ∷ ws) t h all =
 pub below : (vs ws : List ℤ) (s t : Span) → s.high ≤ℤ t.low → list_all (is_within s) vs ≡ true → list_all (is_within t) ws ≡ true → is_below vs ws ≡ true
 below [] ws s t h left right = refl
 below (v ∷ vs) ws s t h left right =
-    let parts = both (is_within s v) (list_all (is_within s) vs) left in
-    let ends = both (int_le s.low v) (int_le v s.high) parts.0 in
-    together (list_all (λ w. int_le v w) ws) (is_below vs ws) (under v ws t (through v s.high t.low ends.1 h) right) (below vs ws s t h parts.1 right)
+    let parts = and_parts (is_within s v) (list_all (is_within s) vs) left in
+    let ends = and_parts (int_le s.low v) (int_le v s.high) parts.0 in
+    and_from (list_all (λ w. int_le v w) ws) (is_below vs ws) (under v ws t (through v s.high t.low ends.1 h) right) (below vs ws s t h parts.1 right)
   where
     through : (x y z : ℤ) → int_le x y ≡ true → y ≤ℤ z → x ≤ℤ z
     through x y z h k = grind (arith, ints)
@@ -79,14 +61,14 @@ below (v ∷ vs) ws s t h left right =
 -- the values are apart where the spans don't meet
 pub spans_apart : (n : Coordinates) (a b : List Coordinates) (s t : Span) → IsSpan n a s → IsSpan n b t → spans_meet s t ≡ false
     → (are_apart (map (dot n) a) (map (dot n) b) ≡ true) × (are_apart (map (dot n) b) (map (dot n) a) ≡ true)
-spans_apart n a b s t left right h = elim (fails_one (int_lt s.low t.high) (int_lt t.low s.high) h) [
+spans_apart n a b s t left right h = elim (and_cases (int_lt s.low t.high) (int_lt t.low s.high) h) [
   | inl k ↦ (
       let e = below (map (dot n) b) (map (dot n) a) t s (turned s.low t.high k) right.all left.all in
-      (or_second (is_below (map (dot n) a) (map (dot n) b)) _ e, or_first (is_below (map (dot n) b) (map (dot n) a)) _ e)
+      (or_right (is_below (map (dot n) a) (map (dot n) b)) _ e, or_left (is_below (map (dot n) b) (map (dot n) a)) _ e)
       )
   | inr k ↦ (
       let e = below (map (dot n) a) (map (dot n) b) s t (turned t.low s.high k) left.all right.all in
-      (or_first (is_below (map (dot n) a) (map (dot n) b)) _ e, or_second (is_below (map (dot n) b) (map (dot n) a)) _ e)
+      (or_left (is_below (map (dot n) a) (map (dot n) b)) _ e, or_right (is_below (map (dot n) b) (map (dot n) a)) _ e)
       )
 ]
   where

@@ -1,12 +1,12 @@
 -- What holds of all tetrahedra that are separated, which are given by their corners.
-use Rattle.std.specs.Prelude.{neg_ℤ, ◌≡◌, ◌≤◌, true, List, [], ◌∷◌, None, IsPermutation}
+use Rattle.std.specs.Prelude.{◌≡◌, ◌≤◌, true, List, None}
 use Rattle.std.specs.List.{AllPairs}
 use Rattle.ma_geom.specs.Coordinates.{Coordinates}
 use Rattle.ma_geom.specs.Rational.{Rational}
-use Rattle.ma_geom.specs.Volume.{vol6}
 use Rattle.ma_cells.specs.Tetrahedron.{Tetrahedron, are_corners}
 use Rattle.ma_cover.specs.Cover.{whole_cover}
-use Rattle.ma_cover.specs.Inside.{are_alike, is_inside}
+use Rattle.ma_cover.specs.Inside.{is_inside}
+use Rattle.ma_cover.specs.Sound.{LieOnBothSides}
 use Rattle.overlap_check.specs.Overlap.{are_separated, first_overlap_of}
 
 -- no point is within both
@@ -21,8 +21,6 @@ SeparatedCoverOnce = (p : Rational) (tets : List Tetrahedron) → AllPairs (λ t
 abbrev pub NoOverlapCoversOnce : Type 0
 NoOverlapCoversOnce = (p : Rational) (tets : List Tetrahedron) → first_overlap_of tets ≡ None → whole_cover p tets ≤ 1
 
--- where two that are separated share the face u v w, their fourth corners d and e lie strictly on different sides of it
+-- two that are separated lie on different sides of a face that they share
 abbrev pub SeparatedLieOnBothSides : Type 0
-SeparatedLieOnBothSides = (u v w d e : Coordinates) (a b : List Coordinates) → are_corners a ≡ true → are_corners b ≡ true
-    → IsPermutation (u ∷ v ∷ w ∷ d ∷ []) a → IsPermutation (u ∷ v ∷ w ∷ e ∷ []) b → are_separated a b ≡ true
-    → are_alike (vol6 u v w d) (neg_ℤ (vol6 u v w e)) ≡ true
+SeparatedLieOnBothSides = (a b : List Coordinates) → are_corners a ≡ true → are_corners b ≡ true → are_separated a b ≡ true → LieOnBothSides a b

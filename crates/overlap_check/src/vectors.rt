@@ -3,8 +3,9 @@ ghost use Rattle.std.specs.Prelude.{◌≡◌, ◌≤◌, ◌^◌, unsigned_abs}
 ghost use Rattle.ma_geom.specs.Lines.{is_zero};
 ghost use Rattle.ma_geom.specs.Volume.{cross, dot, minus};
 
-use crate::exact::{along, difference, minor, total};
+use crate::exact::{along, total};
 use ma_geom::Place;
+use ma_geom::exact::{difference, minor};
 use std::marker::Model;
 
 /// A vector between two places.

@@ -1,10 +1,9 @@
 -- One step of cutting a cell: the first edge, and what is left to do with its halves.
-use Rattle.std.proofs.Common.{◌≡◌, ℕ, suc, ◌+◌, ◌-◌, ◌≤◌, Bool, true, false, ◌&&◌, List, [], ◌∷◌, ◌++◌, length, take, drop, get_or, eqb, refl, sym, ap, ◌∙◌, append-nil, take_all, length-append, arith}
+use Rattle.std.proofs.Common.{◌≡◌, ℕ, suc, ◌+◌, ◌-◌, ◌≤◌, Bool, true, ◌&&◌, List, [], ◌∷◌, ◌++◌, length, take, drop, get_or, eqb, refl, sym, ap, ◌∙◌, append-nil, take_all, length-append, arith}
 use Rattle.std.specs.Prelude.{map}
 use Rattle.std.specs.Cmp.Lexicographic.{slice_cmp}
 use Rattle.std.specs.List.{list_all}
-use Rattle.std.proofs.lemmas.Bool.{false≢true}
-use Rattle.std.proofs.lemmas.Bool.Decides.{nat_tests}
+use Rattle.std.proofs.lemmas.Bool.{and_parts, eqb-true}
 use Rattle.ma_geom.specs.Coordinates.{Coordinates, place_cmp}
 use Rattle.ma_cells.specs.Ascending.{ascending_of}
 use Rattle.split_templates.specs.declared.edges.Edge.{Edge}
@@ -39,13 +38,6 @@ pub first_ends : (edges : List Edge) (first : Edge) (a b : Coordinates) → 1 �
 first_ends edges first a b some is n =
     ap ends_of (head_and_rest edges first some is) ∙ ap (λ ends. ends ∷ ends_of (rest_of edges)) (two_items first.ends a b n)
 
-parts : (a b : Bool) → (a && b) ≡ true → (a ≡ true) × (b ≡ true)
-parts true b h = (refl, h)
-parts false b h = absurd (false≢true h)
-
-same_length : (m n : ℕ) → eqb m n ≡ true → m ≡ n
-same_length m n h = grind (arith, nat_tests)
-
 pub record IsKept (edges : List (List Coordinates)) (half corners : List Coordinates) : Type 0 where
   pub size : length half ≡ length corners
   pub rest : keeps_corners edges half ≡ true
@@ -55,22 +47,22 @@ kept_test edges corners half = eqb (length half) (length corners) && keeps_corne
 
 kept_one : (edges : List (List Coordinates)) (corners half : List Coordinates) → kept_test edges corners half ≡ true → IsKept edges half corners
 kept_one edges corners half h =
-    let both = parts (eqb (length half) (length corners)) (keeps_corners edges half) h in
-    record { size = same_length (length half) (length corners) both.0; rest = both.1 }
+    let both = and_parts (eqb (length half) (length corners)) (keeps_corners edges half) h in
+    record { size = eqb-true (length half) (length corners) both.0; rest = both.1 }
 
 pub kept_halves : (edge : List Coordinates) (edges : List (List Coordinates)) (corners p q : List Coordinates) → halves edge corners ≡ p ∷ q ∷ []
     → keeps_corners (edge ∷ edges) corners ≡ true → IsKept edges p corners × IsKept edges q corners
 kept_halves edge edges corners p q is kept =
     let all : list_all (kept_test edges corners) (p ∷ q ∷ []) ≡ true = ap (list_all (kept_test edges corners)) (sym is) ∙ kept in
-    let first = parts (kept_test edges corners p) (list_all (kept_test edges corners) (q ∷ [])) all in
-    let second = parts (kept_test edges corners q) true first.1 in
+    let first = and_parts (kept_test edges corners p) (list_all (kept_test edges corners) (q ∷ [])) all in
+    let second = and_parts (kept_test edges corners q) true first.1 in
     (kept_one edges corners p first.0, kept_one edges corners q second.0)
 
 pub kept_whole : (edge : List Coordinates) (edges : List (List Coordinates)) (corners : List Coordinates) → halves edge corners ≡ corners ∷ []
     → keeps_corners (edge ∷ edges) corners ≡ true → keeps_corners edges corners ≡ true
 kept_whole edge edges corners is kept =
     let all : list_all (kept_test edges corners) (corners ∷ []) ≡ true = ap (list_all (kept_test edges corners)) (sym is) ∙ kept in
-    let first = parts (kept_test edges corners corners) true all in
+    let first = and_parts (kept_test edges corners corners) true all in
     (kept_one edges corners corners first.0).rest
 
 pub pieces_of_halves : (edge : List Coordinates) (edges : List (List Coordinates)) (corners p q : List Coordinates) → halves edge corners ≡ p ∷ q ∷ []

@@ -3,8 +3,6 @@ pub mod Masks
 pub mod Ranked
 pub mod Replaced
 pub mod Cut
-pub mod Solid
-pub mod Halved
 pub mod Counting
 pub mod Middles
 pub mod Keeping

@@ -39,27 +39,6 @@ module _ {K : Type 0} (R : K → K → Ordering) where
       let one = length-put x (put_all R xs ys) in
       omega arith
 
-  pub length-ascending_of : (xs : List K) → length (ascending_of R xs) ≤ length xs
-  length-ascending_of [] = omega arith
-  length-ascending_of (x ∷ xs) =
-      let more = length-ascending_of xs in
-      let one = length-put x (ascending_of R xs) in
-      omega arith
-
-  -- what holds of each item holds of each that is in the set
-  all-put : (P : K → Type 0) (x : K) (ys : List K) → P x → AllByRecursion P ys → AllByRecursion P (put R x ys)
-  all-put P x [] e h = (e, tt)
-  all-put P x (y ∷ ys) e h =
-      elim (R x y) as (λ r. AllByRecursion P (cond (is_lt r) (x ∷ y ∷ ys) (cond (is_eq r) (y ∷ ys) (y ∷ put R x ys)))) [
-        | Less ↦ (e, h)
-        | Equal ↦ h
-        | Greater ↦ (h.0, all-put P x ys e h.1)
-      ]
-
-  pub all-ascending_of : (P : K → Type 0) (xs : List K) → AllByRecursion P xs → AllByRecursion P (ascending_of R xs)
-  all-ascending_of P [] h = tt
-  all-ascending_of P (x ∷ xs) h = all-put P x (ascending_of R xs) h.0 (all-ascending_of P xs h.1)
-
 -- a map that keeps the order carries sets over
 module _ {K L : Type 0} (R : K → K → Ordering) (S : L → L → Ordering) (f : K → L) (same : (x y : K) → S (f x) (f y) ≡ R x y) where
   pub map-put : (x : K) (ys : List K) → put S (f x) (map f ys) ≡ map f (put R x ys)
@@ -72,15 +51,6 @@ module _ {K L : Type 0} (R : K → K → Ordering) (S : L → L → Ordering) (f
       ])
 
 -- ---- chosen items
-pub length-chosen : {X : Type 0} (mask : ℕ) (xs : List X) → length (chosen mask xs) ≤ length xs
-length-chosen mask [] = omega arith
-length-chosen mask (x ∷ xs) =
-    let more = length-chosen (mask / 2) xs in
-    elim (mask % 2 == 1) as (λ b. length (cond b (x ∷ chosen (mask / 2) xs) (chosen (mask / 2) xs)) ≤ suc (length xs)) [
-      | true ↦ omega arith
-      | false ↦ omega arith
-    ]
-
 pub all-chosen : {X : Type 0} (P : X → Type 0) (mask : ℕ) (xs : List X) → AllByRecursion P xs → AllByRecursion P (chosen mask xs)
 all-chosen P mask [] h = tt
 all-chosen P mask (x ∷ xs) h =

@@ -3,10 +3,12 @@ use Rattle.std.proofs.Common.{◌≡◌, ◌≢◌, zero, suc, true, false, List
 use Rattle.std.specs.Prelude.{ℤ, pos, negsuc, ◌+ℤ◌, ◌-ℤ◌, ◌*ℤ◌, ◌≤ℤ◌}
 use Rattle.std.proofs.lemmas.Bool.{false≢true}
 use Rattle.std.proofs.lemmas.Int.{ints}
+use Rattle.std.proofs.lemmas.List.Sorted.{IsPermutation-to_front}
 use Rattle.ma_geom.specs.Coordinates.{Coordinates}
 use Rattle.ma_geom.specs.Lines.{collinear, is_zero, normal}
 use Rattle.ma_geom.specs.Volume.{cross, dot, minus, vol6}
 use Rattle.ma_geom.proofs.Integers.{square_not_negative}
+use Rattle.ma_cells.proofs.Pieces.{solid_in_any_order}
 use Rattle.split_templates.specs.Pieces.{is_straight}
 use Rattle.split_templates.proofs.Corners.{IsTriangle}
 
@@ -55,5 +57,7 @@ pub apex : (t : List Coordinates) → is_straight t ≡ false → (d : Coordinat
 apex [] h = absurd (false≢true (sym h))
 apex (a ∷ []) h = absurd (false≢true (sym h))
 apex (a ∷ b ∷ []) h = absurd (false≢true (sym h))
-apex (a ∷ b ∷ c ∷ []) h = (beyond a (normal a b c), off_the_plane a b c h)
+apex (a ∷ b ∷ c ∷ []) h =
+    let d = beyond a (normal a b c) in
+    (d, solid_in_any_order a b c d (d ∷ a ∷ b ∷ c ∷ []) (IsPermutation-to_front (a ∷ b ∷ c ∷ []) d) (off_the_plane a b c h))
 apex (a ∷ b ∷ c ∷ d ∷ t) h = absurd (false≢true (sym h))

@@ -1,42 +1,27 @@
 -- The pieces of a tetrahedron are corners of tetrahedra.
-use Rattle.std.proofs.Common.{◌≡◌, ℕ, zero, suc, ◌<◌, Bool, true, false, not, ◌&&◌, List, [], ◌∷◌, length, get_or, Some, refl, sym, ◌∙◌, arith}
+use Rattle.std.proofs.Common.{◌≡◌, ℕ, zero, suc, ◌<◌, true, List, [], ◌∷◌, length, get_or, Some, refl, arith}
+use Rattle.std.proofs.lemmas.Bool.{and_parts}
 use Rattle.std.specs.Prelude.{ℤ}
 use Rattle.std.specs.Cmp.Lexicographic.{slice_cmp}
 use Rattle.std.specs.List.{AllByRecursion, list_all}
-use Rattle.std.proofs.lemmas.Bool.{false≢true}
 use Rattle.ma_geom.specs.Coordinates.{Coordinates, place_cmp}
-use Rattle.ma_cells.specs.Ascending.{are_ascending, ascending_of}
-use Rattle.ma_cells.specs.Tetrahedron.{are_corners, is_flat, tetrahedron_of}
-use Rattle.ma_cells.proofs.Corners.{ascending_is, corners_rise}
+use Rattle.ma_cells.specs.Ascending.{ascending_of}
+use Rattle.ma_cells.specs.Tetrahedron.{are_corners, tetrahedron_of}
+use Rattle.ma_cells.proofs.Corners.{ascending_is, corners_rise, corners_span}
 use Rattle.split_templates.specs.Pieces.{bisected_along}
 use Rattle.split_templates.proofs.Corners.{IsTetrahedron, tetrahedron_pieces}
-use Rattle.split_templates.proofs.Sets.{all-ascending_of}
 use Rattle.split_templates.proofs.Shapes.{in_turn}
-use Rattle.split_templates.proofs.Solid.{not_flat, solid}
-
-corners_span : (places : List Coordinates) → are_corners places ≡ true → is_flat places ≡ false
-corners_span places h =
-    elim (is_flat places) as (λ b. (are_ascending place_cmp places && not b) ≡ true → b ≡ false) [
-      | true ↦ λ k. absurd (false≢true (sym (never (are_ascending place_cmp places)) ∙ k))
-      | false ↦ λ _. refl
-    ] h
-  where
-    never : (b : Bool) → (b && false) ≡ false
-    never true = refl
-    never false = refl
-
-pub tetrahedron : (places : List Coordinates) → are_corners places ≡ true → IsTetrahedron places
-tetrahedron places h = (solid places (corners_span places h), corners_rise places h)
+use Rattle.ma_cells.proofs.SetItems.{all-ascending_of}
 
 all_corners : (pieces : List (List Coordinates)) → AllByRecursion IsTetrahedron pieces → list_all are_corners pieces ≡ true
 all_corners [] h = refl
-all_corners (t ∷ ts) h = rw (h.0.1, not_flat t h.0.0) (all_corners ts h.1)
+all_corners (t ∷ ts) h = rw (h.0) (all_corners ts h.1)
 
 pub all_are_corners : (mask : ℕ) (corners : List Coordinates) → are_corners corners ≡ true
     → list_all are_corners (ascending_of (slice_cmp place_cmp) (bisected_along (in_turn mask corners) (corners ∷ []))) ≡ true
 all_are_corners mask corners h =
     let pieces = bisected_along (in_turn mask corners) (corners ∷ []) in
-    all_corners (ascending_of (slice_cmp place_cmp) pieces) (all-ascending_of (slice_cmp place_cmp) IsTetrahedron pieces (tetrahedron_pieces mask corners (tetrahedron corners h)))
+    all_corners (ascending_of (slice_cmp place_cmp) pieces) (all-ascending_of (slice_cmp place_cmp) IsTetrahedron pieces (tetrahedron_pieces mask corners h))
 
 -- corners are the corners of their tetrahedron
 pub tetrahedron_is : (places : List Coordinates) (phys elem phys' elem' : ℤ) → phys' ≡ phys → elem' ≡ elem → are_corners places ≡ true
@@ -45,13 +30,5 @@ tetrahedron_is places phys elem phys' elem' p e h = rw (ascending_is places (cor
 
 pub corners_at : (pieces : List (List Coordinates)) (i : ℕ) (d : List Coordinates) → i < length pieces → list_all are_corners pieces ≡ true → are_corners (get_or pieces i d) ≡ true
 corners_at [] i d within h = absurd (omega arith)
-corners_at (t ∷ ts) zero d within h = first (are_corners t) (list_all are_corners ts) h
-  where
-    first : (a b : Bool) → (a && b) ≡ true → a ≡ true
-    first true b k = refl
-    first false b k = absurd (false≢true k)
-corners_at (t ∷ ts) (suc i) d within h = corners_at ts i d (omega arith) (second (are_corners t) (list_all are_corners ts) h)
-  where
-    second : (a b : Bool) → (a && b) ≡ true → b ≡ true
-    second true b k = k
-    second false b k = absurd (false≢true k)
+corners_at (t ∷ ts) zero d within h = (and_parts (are_corners t) (list_all are_corners ts) h).0
+corners_at (t ∷ ts) (suc i) d within h = corners_at ts i d (omega arith) (and_parts (are_corners t) (list_all are_corners ts) h).1

@@ -3,8 +3,7 @@ use Rattle.std.specs.FinMap.{IsAntisymmetric}
 use Rattle.std.proofs.lemmas.List.{take_all}
 use Rattle.ma_cells.specs.Ascending.{ascending_of}
 use Rattle.ma_cells.specs.Cells.{cell_cmp}
-use Rattle.ma_cells.proofs.CellOrders.{cell_cmp-IsAntisymmetric}
-use Rattle.msh_write.proofs.Holding.{derived_cells}
+use Rattle.ma_cells.proofs.CellOrders.{cell_cmp-IsAntisymmetric, derived_cells}
 use Rattle.msh_write.proofs.holders.marked_cells.Goals as goal
 
 pub returns : goal.returns

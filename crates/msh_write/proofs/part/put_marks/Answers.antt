@@ -15,5 +15,5 @@ pub returns : goal.returns
 returns c =
     both_ok c.put_mark_lines.result c.put_mark_lines.ensures.lines c.put_mark_lines.ensures.cells
     (λ lines cells. lines ∙ ap (λ ls. c.args.out.now.items ++ ended ls)
-    (marks-alike c.args.nodes.now c.args.part c.as_slice.result.now c.args.members.now c.as_slice-2.result.now c.args.marks.now (c.as_slice.ensures.items ∙ c.in_ok-marked.ensures)
-    (c.as_slice-2.ensures.items ∙ c.in_ok-holders.ensures.holders) c.in_ok-holders.ensures.rise cells))
+    (marks-alike c.args.nodes.now c.args.part c.in_ok-marked.marked c.args.members.now c.as_slice.result.now c.args.marks.now c.in_ok-marked.ensures
+    (c.as_slice.ensures.items ∙ c.in_ok-holders.ensures) c.requires.corners cells))

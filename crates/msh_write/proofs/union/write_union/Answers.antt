@@ -7,7 +7,7 @@ use Rattle.msh_write.proofs.union.write_union.Goals as goal
 
 pub returns : goal.returns
 returns c =
-    let gathered : c.in_ok-nodes.nodes ≡ nodes_of c.args.mesh.now.tets = c.in_ok-nodes.ensures ∙ ap nodes_of c.as_slice.ensures.items in
+    let gathered : c.in_ok-nodes.nodes ≡ nodes_of c.args.mesh.now.tets = c.in_ok-nodes.ensures.nodes ∙ ap nodes_of c.as_slice.ensures.items in
     let marks : c.as_slice-5.result.now ≡ filter is_tagged c.args.mesh.now.marks = c.as_slice-5.ensures.value ∙ c.in_ok-marks.ensures ∙ ap (filter is_tagged) c.as_slice-2.ensures.items in
     let text = text-written c.args.names.now c.args.mesh.now.tets (elements_of c.args.mesh.now) _ _ _ _ _ (c.as_slice-3.ensures.items ∙ gathered) (c.as_slice-4.ensures.items ∙ gathered)
     (ap (λ ms. map (mark_element []) ms ++ map (tet_element []) c.as_slice-6.result.now) marks

@@ -1,5 +1,5 @@
 use Rattle.std.proofs.Common.{◌≡◌, true, take}
-use Rattle.one_mesh.specs.Laws.{are_tetrahedra}
+use Rattle.ma_cells.specs.Tetrahedron.{are_tetrahedra}
 use Rattle.one_mesh.proofs.pieces.copied.Given as goal
 
 abbrev pub invariant-loop-tet : goal.invariant-loop-tet

@@ -9,7 +9,7 @@ use Rattle.split_templates.proofs.Corners.{tetrahedron_count, tetrahedron_kept}
 use Rattle.split_templates.proofs.Cut.{ends_of, gathered_all, kept_by_all, room_for_all}
 use Rattle.split_templates.proofs.Ranked.{ends_in_order}
 use Rattle.split_templates.proofs.Shapes.{in_turn}
-use Rattle.split_templates.proofs.Tetrahedra.{all_are_corners, tetrahedron}
+use Rattle.split_templates.proofs.Tetrahedra.{all_are_corners}
 use Rattle.split_templates.proofs.split.tet_pieces.Goals as goal
 
 pub cut_tet-requires-clause-kept : goal.cut_tet-requires-clause-kept
@@ -18,7 +18,7 @@ cut_tet-requires-clause-kept c =
     let marked = in_turn c.args.mask corners in
     let same : ends_of c.as_slice.result.now ≡ marked
     = ends_in_order _ _ _ c.as_slice.ensures.value c.in_order.ensures.value ∙ ap (λ es. ascending_of edge_cmp (chosen c.args.mask es)) (c.edges.ensures.value ∙ sym (ap edges_of c.corners.ensures.value)) in
-    kept_by_all _ marked corners same (tetrahedron_kept c.args.mask corners (tetrahedron corners c.corners.ensures.corners))
+    kept_by_all _ marked corners same (tetrahedron_kept c.args.mask corners c.corners.ensures.corners)
 
 pub cut_tet-requires-clause-room : goal.cut_tet-requires-clause-room
 cut_tet-requires-clause-room c =
@@ -26,7 +26,7 @@ cut_tet-requires-clause-room c =
     let marked = in_turn c.args.mask corners in
     let same : ends_of c.as_slice.result.now ≡ marked
     = ends_in_order _ _ _ c.as_slice.ensures.value c.in_order.ensures.value ∙ ap (λ es. ascending_of edge_cmp (chosen c.args.mask es)) (c.edges.ensures.value ∙ sym (ap edges_of c.corners.ensures.value)) in
-    room_for_all _ marked corners same _ 8 c.new-pieces.ensures (tetrahedron_count c.args.mask corners (tetrahedron corners c.corners.ensures.corners))
+    room_for_all _ marked corners same _ 8 c.new-pieces.ensures (tetrahedron_count c.args.mask corners c.corners.ensures.corners)
 
 pub returns-clause-value : goal.returns-clause-value
 returns-clause-value c =

@@ -1,12 +1,10 @@
 use Rattle.std.proofs.Common.{◌≡◌, true, false, ◌∙◌, ap}
 use Rattle.ma_cells.specs.Ascending.{ascending_of}
-use Rattle.ma_cells.specs.Tetrahedron.{tet_cmp}
+use Rattle.ma_cells.specs.Tetrahedron.{tet_cmp, are_corners, are_tetrahedra}
 use Rattle.ma_cells.proofs.CellOrders.{tet_cmp-IsAntisymmetric}
-use Rattle.ma_cells.specs.Tetrahedron.{are_corners}
-use Rattle.split_templates.proofs.Sets.{all-ascending_of}
-use Rattle.one_mesh.specs.Laws.{are_tetrahedra}
-use Rattle.one_mesh.proofs.Passing.{all_pass, test_all}
+use Rattle.ma_cells.proofs.Passing.{all_pass, test_all}
 use Rattle.one_mesh.proofs.store.OneMesh.from_mesh.Goals as goal
+use Rattle.ma_cells.proofs.SetItems.{all-ascending_of}
 
 pub returns : goal.returns
 returns c =

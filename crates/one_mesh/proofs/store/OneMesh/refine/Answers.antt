@@ -1,8 +1,9 @@
 use Rattle.std.proofs.Common.{◌≡◌, suc, true, ap, sym, subst}
 use Rattle.ma_cells.specs.declared.batch.Batch.{Batch}
-use Rattle.one_mesh.specs.Grid.{mesh_is_on_grid}
+use Rattle.ma_cells.specs.Grid.{mesh_is_on_grid}
 use Rattle.one_mesh.specs.Holding.{Holding}
-use Rattle.one_mesh.specs.Laws.{KeepsCover, are_tetrahedra}
+use Rattle.ma_cells.specs.Tetrahedron.{are_tetrahedra}
+use Rattle.one_mesh.specs.Laws.{KeepsCover}
 use Rattle.one_mesh.proofs.Covered.{refinement_keeps_cover}
 use Rattle.one_mesh.proofs.Gridded.{refinement_halves_the_grid}
 use Rattle.one_mesh.proofs.Solid.{refinement_is_solid}

@@ -1,5 +1,5 @@
 -- Grids of places whose coordinates are multiples of a power of two.
-use Rattle.std.specs.Prelude.{ℕ, zero, suc, ◌%◌, ◌^◌, ◌==◌, ℤ, unsigned_abs, Bool, ◌&&◌, List, if◌then◌else◌}
+use Rattle.std.specs.Prelude.{◌≡◌, ◌≤◌, true, ℕ, zero, suc, ◌%◌, ◌^◌, ◌==◌, ℤ, unsigned_abs, Bool, ◌&&◌, List, if◌then◌else◌}
 use Rattle.std.specs.List.{list_all}
 use Rattle.ma_geom.specs.Coordinates.{Coordinates}
 use Rattle.ma_cells.specs.Cells.{CellMark, corners_of}
@@ -30,6 +30,12 @@ mesh_is_on_grid k mesh = are_on_grid k mesh.tets && marks_are_on_grid k mesh.mar
 abbrev pub greatest : ℕ → (ℕ → Bool) → ℕ
 greatest zero test = zero
 greatest (suc n) test = if test (suc n) then suc n else greatest n test
+
+-- that a number is the greatest up to `most` that passes a test
+pub record IsGreatest (most : ℕ) (test : ℕ → Bool) (k : ℕ) : Type 0 where
+  pub within : k ≤ most
+  pub passes : test k ≡ true
+  pub no_other : (n : ℕ) → n ≤ most → test n ≡ true → n ≤ k
 
 -- the greatest k up to 30 for which all corners of the tetrahedra are on the grid of 2^k
 unfoldable pub grid_of : List Tetrahedron → ℕ

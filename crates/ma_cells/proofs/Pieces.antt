@@ -1,5 +1,5 @@
 -- What bisecting a tetrahedron at a middle gives: two tetrahedra, neither of them flat.
-use Rattle.std.proofs.Common.{◌≡◌, ◌≢◌, Bool, true, false, cond, not, ◌&&◌, List, [], ◌∷◌, length, refl, sym, ap, subst, ◌∙◌, arith}
+use Rattle.std.proofs.Common.{◌≡◌, ◌≢◌, Bool, true, false, cond, List, [], ◌∷◌, length, refl, sym, ap, subst, ◌∙◌, arith}
 use Rattle.std.specs.Prelude.{ℤ, pos, ◌+ℤ◌, map}
 use Rattle.std.specs.List.{list_all}
 use Rattle.std.specs.List.Sorted.{IsPermutation}
@@ -11,14 +11,14 @@ use Rattle.ma_geom.specs.Coordinates.{Coordinates, place_cmp}
 use Rattle.ma_geom.specs.Rational.{IsMiddle}
 use Rattle.ma_geom.specs.Volume.{vol6}
 use Rattle.ma_geom.proofs.Identities.{IsMiddle-exchange, flat_exchange_ab, flat_exchange_bc, flat_exchange_cd, flat_in_any_order, vol6_half, vol6_other_half, vol6_same_ab, vol6_same_ac, vol6_same_ad, vol6_same_bc, vol6_same_bd, vol6_same_cd}
-use Rattle.ma_cells.specs.Ascending.{are_ascending, are_distinct, ascending_of}
+use Rattle.ma_cells.specs.Ascending.{are_ascending, are_distinct, ascending_of, has}
 use Rattle.ma_cells.specs.Bisection.{bisect, replaced}
 use Rattle.ma_cells.specs.Faces.{holds_all}
 use Rattle.ma_cells.specs.Tetrahedron.{are_corners, is_flat}
 use Rattle.ma_cells.proofs.Bisections.{replaced-ascends}
-use Rattle.ma_cells.proofs.Corners.{sorted_corners}
-use Rattle.ma_cover.proofs.Exchanges.{OfFour, in_any_order}
-use Rattle.ma_cover.proofs.Permutations.{apart, ascending_of-permutes, edge_first, tied}
+use Rattle.ma_cells.proofs.Corners.{corners_span, sorted_corners}
+use Rattle.ma_cells.proofs.FourPlaces.{OfFour, in_any_order}
+use Rattle.ma_cells.proofs.Permutations.{alone, apart, ascending_of-permutes, edge_first, has-permutation, tied}
 
 -- ---- halves
 twice_none : (u v : ℤ) → u +ℤ u ≡ v → u ≡ pos 0 → v ≡ pos 0
@@ -76,15 +76,20 @@ distinct_corners a b c d solid =
     ) refl
 
 -- ---- the halves of corners in any order
-pub replaced_first : (m a b c d : Coordinates) (corners : List Coordinates) → IsPermutation (a ∷ b ∷ c ∷ d ∷ []) corners → IsMiddle m a b → vol6 a b c d ≢ pos 0
-    → IsPermutation (m ∷ b ∷ c ∷ d ∷ []) (replaced a m corners)
-replaced_first m a b c d corners moved middle solid =
+-- the corners with m in the place of a
+pub moved_first : (m a b c d : Coordinates) (corners : List Coordinates) → IsPermutation (a ∷ b ∷ c ∷ d ∷ []) corners → vol6 a b c d ≢ pos 0
+    → IsPermutation (m ∷ b ∷ c ∷ d ∷ []) (map (λ p. cond (eq_by_cmp place_cmp a p) m p) corners)
+moved_first m a b c d corners moved solid =
     let changed = λ (p : Coordinates). cond (eq_by_cmp place_cmp a p) m p in
     let first : map changed (a ∷ b ∷ c ∷ d ∷ []) ≡ m ∷ b ∷ c ∷ d ∷ [] =
     rw (tied a, apart a b (differ_ab a b c d solid), apart a c (differ_ac a b c d solid), apart a d (differ_ad a b c d solid)) refl in
+    subst (λ places. IsPermutation places (map changed corners)) first (IsPermutation-map changed (a ∷ b ∷ c ∷ d ∷ []) corners moved)
+
+pub replaced_first : (m a b c d : Coordinates) (corners : List Coordinates) → IsPermutation (a ∷ b ∷ c ∷ d ∷ []) corners → IsMiddle m a b → vol6 a b c d ≢ pos 0
+    → IsPermutation (m ∷ b ∷ c ∷ d ∷ []) (replaced a m corners)
+replaced_first m a b c d corners moved middle solid =
     let set : ascending_of place_cmp (m ∷ b ∷ c ∷ d ∷ []) ≡ replaced a m corners =
-    ap (ascending_of place_cmp) (sym first)
-    ∙ sorted_corners (map changed (a ∷ b ∷ c ∷ d ∷ [])) (map changed corners) (IsPermutation-map changed (a ∷ b ∷ c ∷ d ∷ []) corners moved) in
+    sorted_corners (m ∷ b ∷ c ∷ d ∷ []) (map (λ p. cond (eq_by_cmp place_cmp a p) m p) corners) (moved_first m a b c d corners moved solid) in
     subst (IsPermutation (m ∷ b ∷ c ∷ d ∷ [])) set
     (ascending_of-permutes (m ∷ b ∷ c ∷ d ∷ []) (distinct_corners m b c d (half_solid m a b c d middle solid)))
 
@@ -115,16 +120,11 @@ not_flat (a ∷ b ∷ c ∷ []) h = absurd h
 not_flat (a ∷ b ∷ c ∷ d ∷ []) h = not_zero (vol6 a b c d) h
 not_flat (a ∷ b ∷ c ∷ d ∷ e ∷ l) h = absurd h
 
-solid_in_any_order : (a b c d : Coordinates) (others : List Coordinates) → IsPermutation (a ∷ b ∷ c ∷ d ∷ []) others → vol6 a b c d ≢ pos 0 → is_flat others ≡ false
+pub solid_in_any_order : (a b c d : Coordinates) (others : List Coordinates) → IsPermutation (a ∷ b ∷ c ∷ d ∷ []) others → vol6 a b c d ≢ pos 0 → is_flat others ≡ false
 solid_in_any_order a b c d others moved solid =
     not_flat others (in_any_order (λ w x y z. vol6 w x y z ≢ pos 0)
     (λ w x y z h flat. h (flat_exchange_ab x w y z flat)) (λ w x y z h flat. h (flat_exchange_bc w y x z flat)) (λ w x y z h flat. h (flat_exchange_cd w x z y flat))
     a b c d others moved solid)
-
-both_hold : (s t : Bool) → (s && not t) ≡ true → (s ≡ true) × (t ≡ false)
-both_hold true true e = absurd (false≢true e)
-both_hold true false e = (refl, refl)
-both_hold false t e = absurd (false≢true e)
 
 pub four_corners : (corners : List Coordinates) → is_flat corners ≡ false → length corners ≡ 4
 four_corners [] h = absurd (false≢true (sym h))
@@ -150,16 +150,28 @@ pub record HasEdge (a b : Coordinates) (corners : List Coordinates) : Type 0 whe
   pub order : IsPermutation (a ∷ b ∷ c ∷ d ∷ []) corners
   pub solid : vol6 a b c d ≢ pos 0
 
-pub has_edge : (a b : Coordinates) (corners : List Coordinates) → a ≢ b → are_corners corners ≡ true → holds_all corners (a ∷ b ∷ []) ≡ true → HasEdge a b corners
-has_edge a b corners differ are there =
-    let parts = both_hold (are_ascending place_cmp corners) (is_flat corners) are in
-    let found = edge_first a b corners differ (four_corners corners parts.1) there in
+-- corners that span a volume have it at each edge, whatever their order
+pub solid_edge : (a b : Coordinates) (corners : List Coordinates) → a ≢ b → is_flat corners ≡ false → holds_all corners (a ∷ b ∷ []) ≡ true → HasEdge a b corners
+solid_edge a b corners differ solid there =
+    let found = edge_first a b corners differ (four_corners corners solid) there in
     record {
       c = found.0;
       d = found.1;
       order = IsPermutation-sym corners (a ∷ b ∷ found.0 ∷ found.1 ∷ []) found.2;
-      solid = solid_corners corners a b found.0 found.1 found.2 parts.1;
+      solid = solid_corners corners a b found.0 found.1 found.2 solid;
     }
+
+pub has_edge : (a b : Coordinates) (corners : List Coordinates) → a ≢ b → are_corners corners ≡ true → holds_all corners (a ∷ b ∷ []) ≡ true → HasEdge a b corners
+has_edge a b corners differ are there = solid_edge a b corners differ (corners_span corners are) there
+
+-- the middle of an edge is no corner
+pub middle_is_new : (m a b : Coordinates) (corners : List Coordinates) → IsMiddle m a b → a ≢ b → is_flat corners ≡ false → holds_all corners (a ∷ b ∷ []) ≡ true
+    → has place_cmp m corners ≡ false
+middle_is_new m a b corners middle differ solid there =
+    let edge = solid_edge a b corners differ solid there in
+    let others = b ∷ edge.c ∷ edge.d ∷ [] in
+    let none = alone (has place_cmp m others) (are_distinct place_cmp others) (distinct_corners m b edge.c edge.d (half_solid m a b edge.c edge.d middle edge.solid)) in
+    sym (has-permutation m (a ∷ others) corners edge.order) ∙ rw (apart m a (not_end m a b middle differ)) (none.0)
 
 are_corners-from : (corners : List Coordinates) → are_ascending place_cmp corners ≡ true → is_flat corners ≡ false → are_corners corners ≡ true
 are_corners-from corners e f = rw (e, f) refl

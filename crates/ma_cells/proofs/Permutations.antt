@@ -1,16 +1,21 @@
--- Corners that are listed in ascending order, or with some of them first.
+-- Items that are listed in ascending order, and corners with some of them first.
 use Rattle.std.proofs.Common.{◌≡◌, ◌≢◌, Bool, true, false, cond, not, ◌&&◌, ◌||◌, List, [], ◌∷◌, length, refl, sym, ap, subst, ◌∙◌, arith}
+use Rattle.std.specs.declared.cmp.Ordering.{Ordering}
 use Rattle.std.specs.declared.cmp.Ordering.TheVariants.{Less, Equal, Greater}
-use Rattle.std.specs.Cmp.{Equal-is, tied_itself}
+use Rattle.std.specs.Cmp.{IsTotalOrder, Equal-is, tied_itself}
+use Rattle.std.specs.Cmp.Lexicographic.{slice_cmp}
 use Rattle.std.specs.List.Sorted.{IsPermutation}
 use Rattle.std.proofs.lemmas.Bool.{false≢true}
 use Rattle.std.proofs.lemmas.List.Sorted.{IsPermutation-cons, IsPermutation-refl, IsPermutation-swap, IsPermutation-trans, length_permutation}
-use Rattle.std.specs.Ordering.{eq_by_cmp, is_eq, is_lt}
+use Rattle.std.specs.Ordering.{eq_by_cmp, int_cmp, is_eq, is_lt, ordering_then}
 use Rattle.ma_geom.specs.Coordinates.{Coordinates, place_cmp}
 use Rattle.ma_geom.proofs.PlaceOrder.{place_cmp_total, place_cmp-IsAntisymmetric}
 use Rattle.ma_cells.specs.Ascending.{are_distinct, ascending_of, has, put}
 use Rattle.ma_cells.specs.Faces.{holds_all}
+use Rattle.ma_cells.specs.Meshes.{are_listed_once, corner_sets}
+use Rattle.ma_cells.specs.Tetrahedron.{Tetrahedron, tet_cmp}
 use Rattle.ma_cells.proofs.Ascents.{has-ascending_of}
+use Rattle.ma_cells.proofs.CellOrders.{tet_cmp_total}
 use Rattle.ma_cells.proofs.Corners.{sorted_corners}
 
 -- ---- places that tie are equal
@@ -27,35 +32,60 @@ apart p q differ =
       | false ↦ λ _. refl
     ] refl
 
-alone : (h d : Bool) → (not h && d) ≡ true → (h ≡ false) × (d ≡ true)
+pub alone : (h d : Bool) → (not h && d) ≡ true → (h ≡ false) × (d ≡ true)
 alone true d e = absurd (false≢true e)
 alone false d e = (refl, e)
 
 -- ---- ascending order
-exchanged : (x y : Coordinates) (l : List Coordinates) → IsPermutation (x ∷ y ∷ l) (y ∷ x ∷ l)
+exchanged : {K : Type 0} (x y : K) (l : List K) → IsPermutation (x ∷ y ∷ l) (y ∷ x ∷ l)
 exchanged x y l = IsPermutation-swap (x ∷ y ∷ l) (y ∷ x ∷ l) 0 1 (omega arith) (omega arith) refl
 
-put-permutes : (x : Coordinates) (ys : List Coordinates) → has place_cmp x ys ≡ false → IsPermutation (x ∷ ys) (put place_cmp x ys)
-put-permutes x [] new = IsPermutation-refl (x ∷ [])
-put-permutes x (y ∷ ys) new =
-    elim (place_cmp x y) as (λ r. (is_eq r || has place_cmp x ys) ≡ false
-    → IsPermutation (x ∷ y ∷ ys) (cond (is_lt r) (x ∷ y ∷ ys) (cond (is_eq r) (y ∷ ys) (y ∷ put place_cmp x ys)))) [
+put-permutes : {K : Type 0} (R : K → K → Ordering) (x : K) (ys : List K) → has R x ys ≡ false → IsPermutation (x ∷ ys) (put R x ys)
+put-permutes R x [] new = IsPermutation-refl (x ∷ [])
+put-permutes R x (y ∷ ys) new =
+    elim (R x y) as (λ r. (is_eq r || has R x ys) ≡ false
+    → IsPermutation (x ∷ y ∷ ys) (cond (is_lt r) (x ∷ y ∷ ys) (cond (is_eq r) (y ∷ ys) (y ∷ put R x ys)))) [
       | Less ↦ λ _. IsPermutation-refl (x ∷ y ∷ ys)
       | Equal ↦ λ e. absurd (false≢true (sym e))
-      | Greater ↦ λ e.
-          IsPermutation-trans (x ∷ y ∷ ys) (y ∷ x ∷ ys) (y ∷ put place_cmp x ys) (exchanged x y ys)
-          (IsPermutation-cons y (x ∷ ys) (put place_cmp x ys) (put-permutes x ys e))
+      | Greater ↦ λ e. IsPermutation-trans (x ∷ y ∷ ys) (y ∷ x ∷ ys) (y ∷ put R x ys) (exchanged x y ys) (IsPermutation-cons y (x ∷ ys) (put R x ys) (put-permutes R x ys e))
     ] new
 
--- distinct places, put in order, are the same places
-pub ascending_of-permutes : (xs : List Coordinates) → are_distinct place_cmp xs ≡ true → IsPermutation xs (ascending_of place_cmp xs)
-ascending_of-permutes [] distinct = IsPermutation-refl []
-ascending_of-permutes (x ∷ xs) distinct =
-    let first = alone (has place_cmp x xs) (are_distinct place_cmp xs) distinct in
-    IsPermutation-trans (x ∷ xs) (x ∷ ascending_of place_cmp xs) (ascending_of place_cmp (x ∷ xs))
-    (IsPermutation-cons x xs (ascending_of place_cmp xs) (ascending_of-permutes xs first.1))
-    (put-permutes x (ascending_of place_cmp xs) (has-ascending_of place_cmp_total x xs ∙ first.0))
+-- distinct items, put in order, are the same items
+pub distinct-permutes : {K : Type 0} {R : K → K → Ordering} → IsTotalOrder R → (xs : List K) → are_distinct R xs ≡ true → IsPermutation xs (ascending_of R xs)
+distinct-permutes o [] distinct = IsPermutation-refl []
+distinct-permutes {R = R} o (x ∷ xs) distinct =
+    let first = alone (has R x xs) (are_distinct R xs) distinct in
+    IsPermutation-trans (x ∷ xs) (x ∷ ascending_of R xs) (ascending_of R (x ∷ xs))
+    (IsPermutation-cons x xs (ascending_of R xs) (distinct-permutes o xs first.1))
+    (put-permutes R x (ascending_of R xs) (has-ascending_of o x xs ∙ first.0))
 
+-- the same of places
+pub ascending_of-permutes : (xs : List Coordinates) → are_distinct place_cmp xs ≡ true → IsPermutation xs (ascending_of place_cmp xs)
+ascending_of-permutes = distinct-permutes place_cmp_total
+
+-- ---- tetrahedra that are listed once
+other_corners : (t : Tetrahedron) (ts : List Tetrahedron) → has (slice_cmp place_cmp) t.corners (corner_sets ts) ≡ false → has tet_cmp t ts ≡ false
+other_corners t [] new = refl
+other_corners t (u ∷ us) new =
+    elim (slice_cmp place_cmp t.corners u.corners) as (λ r. (is_eq r || has (slice_cmp place_cmp) t.corners (corner_sets us)) ≡ false
+    → (is_eq (ordering_then r (ordering_then (int_cmp t.phys u.phys) (int_cmp t.elem u.elem))) || has tet_cmp t us) ≡ false) [
+      | Less ↦ λ e. other_corners t us e
+      | Equal ↦ λ e. absurd (false≢true (sym e))
+      | Greater ↦ λ e. other_corners t us e
+    ] new
+
+-- tetrahedra whose corners differ are distinct
+pub listed_once-distinct : (tets : List Tetrahedron) → are_listed_once tets ≡ true → are_distinct tet_cmp tets ≡ true
+listed_once-distinct [] once = refl
+listed_once-distinct (t ∷ ts) once =
+    let first = alone (has (slice_cmp place_cmp) t.corners (corner_sets ts)) (are_listed_once ts) once in
+    rw (other_corners t ts first.0) (listed_once-distinct ts first.1)
+
+-- so in ascending order they are the same tetrahedra
+pub listed_once-permutes : (tets : List Tetrahedron) → are_listed_once tets ≡ true → IsPermutation tets (ascending_of tet_cmp tets)
+listed_once-permutes tets once = distinct-permutes tet_cmp_total tets (listed_once-distinct tets once)
+
+-- ---- places that are held
 -- the same places are held in any order
 pub has-permutation : (q : Coordinates) (xs ys : List Coordinates) → IsPermutation xs ys → has place_cmp q xs ≡ has place_cmp q ys
 has-permutation q xs ys moved =
@@ -74,7 +104,7 @@ listed_first q (x ∷ xs) there =
           )
     ] refl there
 
-both : (s t : Bool) → (s && (t && true)) ≡ true → (s ≡ true) × (t ≡ true)
+pub both : (s t : Bool) → (s && (t && true)) ≡ true → (s ≡ true) × (t ≡ true)
 both true true e = (refl, refl)
 both true false e = absurd (false≢true e)
 both false t e = absurd (false≢true e)
@@ -90,13 +120,18 @@ two_left corners a b [] four moved = let long = length_permutation corners (a �
 two_left corners a b (c ∷ []) four moved = let long = length_permutation corners (a ∷ b ∷ c ∷ []) moved in absurd (omega arith)
 two_left corners a b (c ∷ d ∷ e ∷ l) four moved = let long = length_permutation corners (a ∷ b ∷ c ∷ d ∷ e ∷ l) moved in absurd (omega arith)
 
--- four corners with those of an edge first
-pub edge_first : (a b : Coordinates) (corners : List Coordinates) → a ≢ b → length corners ≡ 4 → holds_all corners (a ∷ b ∷ []) ≡ true
-    → (c : Coordinates) × (d : Coordinates) × IsPermutation corners (a ∷ b ∷ c ∷ d ∷ [])
-edge_first a b corners differ four there =
+-- corners with those of an edge first
+pub ends_first : (a b : Coordinates) (corners : List Coordinates) → a ≢ b → holds_all corners (a ∷ b ∷ []) ≡ true → (rest : List Coordinates) × IsPermutation corners (a ∷ b ∷ rest)
+ends_first a b corners differ there =
     let held = both (has place_cmp a corners) (has place_cmp b corners) there in
     let first = listed_first a corners held.0 in
     let still : (eq_by_cmp place_cmp b a || has place_cmp b first.0) ≡ true = sym (has-permutation b corners (a ∷ first.0) first.1) ∙ held.1 in
     let next = listed_first b first.0 (in_rest (eq_by_cmp place_cmp b a) (has place_cmp b first.0) still (apart b a (λ e. differ (sym e)))) in
-    two_left corners a b next.0 four
-    (IsPermutation-trans corners (a ∷ first.0) (a ∷ b ∷ next.0) first.1 (IsPermutation-cons a first.0 (b ∷ next.0) next.1))
+    (next.0, IsPermutation-trans corners (a ∷ first.0) (a ∷ b ∷ next.0) first.1 (IsPermutation-cons a first.0 (b ∷ next.0) next.1))
+
+-- the same of four corners
+pub edge_first : (a b : Coordinates) (corners : List Coordinates) → a ≢ b → length corners ≡ 4 → holds_all corners (a ∷ b ∷ []) ≡ true
+    → (c : Coordinates) × (d : Coordinates) × IsPermutation corners (a ∷ b ∷ c ∷ d ∷ [])
+edge_first a b corners differ four there =
+    let found = ends_first a b corners differ there in
+    two_left corners a b found.0 four found.1

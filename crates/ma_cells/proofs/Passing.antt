@@ -1,19 +1,15 @@
 -- What holds of all items of a list, as a test and item by item.
-use Rattle.std.proofs.Common.{◌≡◌, Bool, true, false, ◌&&◌, List, [], ◌∷◌, filter, refl}
+use Rattle.std.proofs.Common.{◌≡◌, Bool, true, false, ◌||◌, List, [], ◌∷◌, filter, refl, ap}
 use Rattle.std.specs.Prelude.{map, cond}
-use Rattle.std.specs.List.{AllByRecursion, flat_map, list_all}
-use Rattle.std.proofs.lemmas.Bool.{false≢true}
+use Rattle.std.specs.List.{AllByRecursion, flat_map, list_all, list_any}
+use Rattle.std.proofs.lemmas.Bool.{and_parts, or_right}
 use Rattle.ma_cells.proofs.Choices.{all-append}
-
-pub both_pass : (a b : Bool) → (a && b) ≡ true → (a ≡ true) × (b ≡ true)
-both_pass true b h = (refl, h)
-both_pass false b h = absurd (false≢true h)
 
 module _ {X : Type 0} (test : X → Bool) where
   pub all_pass : (xs : List X) → list_all test xs ≡ true → AllByRecursion (λ x. test x ≡ true) xs
   all_pass [] h = tt
   all_pass (x ∷ xs) h =
-      let both = both_pass (test x) (list_all test xs) h in
+      let both = and_parts (test x) (list_all test xs) h in
       (both.0, all_pass xs both.1)
 
   pub test_all : (xs : List X) → AllByRecursion (λ x. test x ≡ true) xs → list_all test xs ≡ true
@@ -42,3 +38,20 @@ module _ {X Y : Type 0} (P : X → Type 0) (Q : Y → Type 0) where
   pub all-flat_map : (f : X → List Y) → ((x : X) → P x → AllByRecursion Q (f x)) → (xs : List X) → AllByRecursion P xs → AllByRecursion Q (flat_map f xs)
   all-flat_map f each [] h = tt
   all-flat_map f each (x ∷ xs) h = all-append Q (f x) (flat_map f xs) (each x h.0) (all-flat_map f each xs h.1)
+
+pub all_anyway : {X : Type 0} (xs : List X) → AllByRecursion (λ (x : X). Unit {0}) xs
+all_anyway [] = tt
+all_anyway (x ∷ xs) = (tt, all_anyway xs)
+
+-- ---- what some item of a list passes
+pub any-weaker : {X : Type 0} (f g : X → Bool) → ((x : X) → f x ≡ true → g x ≡ true) → (xs : List X) → list_any f xs ≡ true → list_any g xs ≡ true
+any-weaker f g weaker [] h = h
+any-weaker f g weaker (x ∷ xs) h =
+    elim (f x) as (λ b. f x ≡ b → (b || list_any f xs) ≡ true → (g x || list_any g xs) ≡ true) [
+      | true ↦ λ e _. ap (λ b. b || list_any g xs) (weaker x e)
+      | false ↦ λ _ k. or_right (g x) (list_any g xs) (any-weaker f g weaker xs k)
+    ] refl h
+
+pub any-map : {X Y : Type 0} (f : Y → Bool) (h : X → Y) (xs : List X) → list_any f (map h xs) ≡ list_any (λ x. f (h x)) xs
+any-map f h [] = refl
+any-map f h (x ∷ xs) = ap (λ b. f (h x) || b) (any-map f h xs)
