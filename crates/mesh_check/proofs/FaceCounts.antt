@@ -1,14 +1,14 @@
 -- How many tetrahedra of a region have a face: two at most, where none overlap, and where it is one the face is marked.
 use Rattle.std.proofs.Common.{◌≡◌, ℕ, zero, suc, ◌+◌, Bool, true, false, cond, not, ◌&&◌, ◌||◌, eqb, List, [], ◌∷◌, ◌++◌, length, ◌≤◌, Option, Some, option_map, refl, sym, ap, subst, ◌∙◌, arith, inl, inr, ◌⊎◌, count_by, sum_by}
-use Rattle.std.specs.Prelude.{ℤ, pos, neg_ℤ, IsPermutation}
+use Rattle.std.specs.Prelude.{ℤ, pos, neg_ℤ, IsPermutation, map}
 use Rattle.std.specs.Cmp.{IsTotalOrder, Equal-is, int_cmp_total, tied_itself}
 use Rattle.std.specs.Cmp.Lexicographic.{slice_cmp, lists_total}
 use Rattle.std.specs.FinMap.{IsAntisymmetric, int_cmp-IsAntisymmetric, slice_cmp-IsAntisymmetric}
 use Rattle.std.specs.List.{All, AllByRecursion, AllPairs, filter_map, flat_map, list_any}
-use Rattle.std.specs.Ordering.{eq_by_cmp, int_cmp, is_eq, is_lt}
+use Rattle.std.specs.Ordering.{eq_by_cmp, int_cmp, int_eq, is_eq, is_lt, ordering_then}
 use Rattle.std.specs.declared.cmp.Ordering.{Ordering}
 use Rattle.std.specs.declared.cmp.Ordering.TheVariants.{Less, Equal, Greater}
-use Rattle.std.proofs.lemmas.Bool.{false≢true}
+use Rattle.std.proofs.lemmas.Bool.{and_right, false≢true, or_cases, or_parts, or_right}
 use Rattle.std.proofs.lemmas.Cmp.{on_total, then_total}
 use Rattle.std.proofs.lemmas.Int.{ints}
 use Rattle.std.proofs.lemmas.List.Concat.{flat_map-cons}
@@ -19,7 +19,7 @@ use Rattle.std.proofs.lemmas.List.Folds.{list_any-append}
 use Rattle.ma_geom.specs.Volume.{vol6}
 use Rattle.ma_geom.proofs.PlaceOrder.{both_tie, place_cmp-IsAntisymmetric, place_cmp_total}
 use Rattle.ma_cells.specs.Ascending.{are_ascending, are_distinct, ascending_of, has}
-use Rattle.ma_cells.specs.Cells.{CellMark, mark_cmp}
+use Rattle.ma_cells.specs.Cells.{CellMark, mark_cmp, mark_on}
 use Rattle.ma_cells.specs.Tetrahedron.{Tetrahedron, are_corners}
 use Rattle.ma_cells.proofs.CellOrders.{mark_cmp_total}
 use Rattle.ma_cells.proofs.Cornered.{cell_of-sorted}
@@ -27,15 +27,16 @@ use Rattle.ma_cover.specs.Inside.{are_alike}
 use Rattle.overlap_check.specs.Overlap.{are_separated}
 use Rattle.overlap_check.proofs.BothSides.{separated_lie_on_both_sides}
 use Rattle.mesh_check.specs.Lone.{lone}
-use Rattle.mesh_check.specs.Marks.{is_on, mark_on, outer_marks, side_cmp, sides_of}
-use Rattle.mesh_check.specs.Sound.{LieOnBothSides, outer_mark}
+use Rattle.ma_cells.specs.Incidence.{is_on}
+use Rattle.mesh_check.specs.Marks.{outer_marks, side_cmp, sides_of}
+use Rattle.ma_cover.specs.Sound.{LieOnBothSides, outer_mark, IsPairedOrMarked, holders}
 use Rattle.mesh_check.proofs.Alone.{any-filter}
 use Rattle.mesh_check.proofs.Marking.{any-filter_map, passes}
 use Rattle.ma_cells.proofs.Ascents.{has-ascending_of}
 use Rattle.ma_cells.proofs.Choices.{all-append}
 use Rattle.msh_read.specs.Raw.{Raw}
 use Rattle.mesh_check.specs.FoundMarks.{found_marks, kept_mark}
-use Rattle.mesh_check.specs.Sound.{IsPairedOrMarked}
+use Rattle.ma_cells.specs.Faces.{faces_of}
 
 -- a face with its region
 abbrev Side : Type 0
@@ -54,18 +55,6 @@ side_cmp-IsAntisymmetric s t e =
     let elems = int_cmp-IsAntisymmetric s.1.1 t.1.1 second.1 in
     λ i. (faces i, (physes i, elems i))
 
-either : (a b : Bool) → (a || b) ≡ true → (a ≡ true) ⊎ (b ≡ true)
-either true b e = inl refl
-either false b e = inr e
-
-neither : (a b : Bool) → (a || b) ≡ false → (a ≡ false) × (b ≡ false)
-neither true b e = absurd (false≢true (sym e))
-neither false b e = (refl, e)
-
-or_true : (b : Bool) → (b || true) ≡ true
-or_true true = refl
-or_true false = refl
-
 -- ---- an item of a list, which ties with no other than itself
 module _ {K : Type 0} {R : K → K → Ordering} (exact : IsAntisymmetric R) where
   is_item : (s x : K) → eq_by_cmp R s x ≡ true → s ≡ x
@@ -75,16 +64,16 @@ module _ {K : Type 0} {R : K → K → Ordering} (exact : IsAntisymmetric R) whe
   any-at : (f : K → Bool) (s : K) (xs : List K) → has R s xs ≡ true → f s ≡ true → list_any f xs ≡ true
   any-at f s [] there passed = absurd (false≢true there)
   any-at f s (x ∷ xs) there passed =
-      elim (either (eq_by_cmp R s x) (has R s xs) there) [
+      elim (or_cases (eq_by_cmp R s x) (has R s xs) there) [
         | inl tied ↦ rw (subst (λ y. f y ≡ true) (is_item s x tied) passed) refl
-        | inr later ↦ ap (λ b. f x || b) (any-at f s xs later passed) ∙ or_true (f x)
+        | inr later ↦ ap (λ b. f x || b) (any-at f s xs later passed) ∙ or_right (f x) true refl
       ]
 
   -- what holds of all items holds of it
   all-at : (P : K → Type 0) (s : K) (xs : List K) → AllByRecursion P xs → has R s xs ≡ true → P s
   all-at P s [] all there = absurd (false≢true there)
   all-at P s (x ∷ xs) all there =
-      elim (either (eq_by_cmp R s x) (has R s xs) there) [
+      elim (or_cases (eq_by_cmp R s x) (has R s xs) there) [
         | inl tied ↦ subst P (sym (is_item s x tied)) all.0
         | inr later ↦ all-at P s xs all.1 later
       ]
@@ -96,7 +85,7 @@ added c f r n e g h = omega arith
 count_none : {X : Type 0} (p : X → Bool) (xs : List X) → list_any p xs ≡ false → count_by p xs ≡ 0
 count_none p [] e = refl
 count_none p (x ∷ xs) e =
-    let parts = neither (p x) (list_any p xs) e in
+    let parts = or_parts (p x) (list_any p xs) e in
     added (count_by p (x ∷ xs)) (cond (p x) 1 0) (count_by p xs) 0 (sum_by-cons (λ y. cond (p y) 1 0) x xs) (ap (λ b. cond b 1 0) parts.0) (count_none p xs parts.1)
 
 has-tied : {K : Type 0} {R : K → K → Ordering} → IsTotalOrder R → (s x : K) (xs : List K) → R s x ≡ Equal → has R s xs ≡ has R x xs
@@ -262,15 +251,15 @@ module _ {X : Type 0} (p : X → Bool) (O : X → X → Type 0) (clash : (x y z 
 abbrev pub AreApart : Tetrahedron → Tetrahedron → Type 0
 AreApart t u = (are_corners t.corners ≡ true) × ((are_corners u.corners ≡ true) × (are_separated t.corners u.corners ≡ true))
 
-pub lie_apart : (t u : Tetrahedron) → AreApart t u → LieOnBothSides t u
-lie_apart t u apart x y z d e first second = separated_lie_on_both_sides x y z d e t.corners u.corners apart.0 apart.1.0 first second apart.1.1
+pub lie_apart : (t u : Tetrahedron) → AreApart t u → LieOnBothSides t.corners u.corners
+lie_apart t u apart = separated_lie_on_both_sides t.corners u.corners apart.0 apart.1.0 apart.1.1
 
 -- of three numbers two have one sign
 two_alike : (x y z : ℤ) → are_alike x (neg_ℤ y) ≡ true → are_alike x (neg_ℤ z) ≡ true → are_alike y (neg_ℤ z) ≡ true → ⊥
 two_alike x y z e f g = grind (arith, ints)
 
 no_three : (face : List Coordinates) (region : ℤ × ℤ) (t u v : Tetrahedron) → HasFourth t.corners (face, region) → HasFourth u.corners (face, region) → HasFourth v.corners (face, region)
-    → LieOnBothSides t u → LieOnBothSides t v → LieOnBothSides u v → ⊥
+    → LieOnBothSides t.corners u.corners → LieOnBothSides t.corners v.corners → LieOnBothSides u.corners v.corners → ⊥
 no_three [] region t u v f g h tu tv uv = absurd (omega (arith, f.0))
 no_three (a ∷ []) region t u v f g h tu tv uv = absurd (omega (arith, f.0))
 no_three (a ∷ b ∷ []) region t u v f g h tu tv uv = absurd (omega (arith, f.0))
@@ -329,16 +318,51 @@ marked_once kept s tets solid once =
     has-ascending_of mark_cmp_total mark (kept ++ outer_marks tets)
     ∙ list_any-append (eq_by_cmp mark_cmp mark) kept (outer_marks tets)
     ∙ ap (λ b. has mark_cmp mark kept || b) (is_outer s sides there stands (all-at side_cmp-IsAntisymmetric HasMark s sides (all_markable tets solid) there))
-    ∙ or_true (has mark_cmp mark kept)
+    ∙ or_right (has mark_cmp mark kept) true refl
 
-pub faces_met : (raw : Raw) (shift loose : ℕ) (tets : List Tetrahedron) → AreSolid tets → AllPairs AreApart tets → (face : List Coordinates) (region : ℤ × ℤ)
-    → IsPairedOrMarked (record { tets = tets; marks = found_marks raw shift tets; loose = loose }) face region
-faces_met raw shift loose tets solid apart face region =
+-- ---- the faces of one region
+same_ints : (a b : ℤ) → is_eq (int_cmp a b) ≡ int_eq b a
+same_ints a b = grind (arith, ints)
+
+three_tie : (r s u : Ordering) → is_eq (ordering_then r (ordering_then s u)) ≡ ((is_eq s && is_eq u) && is_eq r)
+three_tie Less s u = sym (and_right (is_eq s && is_eq u) false refl)
+three_tie Greater s u = sym (and_right (is_eq s && is_eq u) false refl)
+three_tie Equal Less u = refl
+three_tie Equal Greater u = refl
+three_tie Equal Equal Less = refl
+three_tie Equal Equal Equal = refl
+three_tie Equal Equal Greater = refl
+
+both_or : (b f g : Bool) → ((b && f) || (b && g)) ≡ (b && (f || g))
+both_or true f g = refl
+both_or false f g = refl
+
+in_region : (phys elem : ℤ) (face : List Coordinates) (tag kind : ℤ) (faces : List (List Coordinates)) → has side_cmp (face, (phys, elem)) (map (λ f. (f, (tag, kind))) faces)
+    ≡ ((int_eq tag phys && int_eq kind elem) && has (slice_cmp place_cmp) face faces)
+in_region phys elem face tag kind [] = sym (and_right (int_eq tag phys && int_eq kind elem) false refl)
+in_region phys elem face tag kind (f ∷ fs) =
+    let first : is_eq (side_cmp (face, (phys, elem)) (f, (tag, kind))) ≡ ((int_eq tag phys && int_eq kind elem) && eq_by_cmp (slice_cmp place_cmp) face f) =
+    three_tie (slice_cmp place_cmp face f) (int_cmp phys tag) (int_cmp elem kind)
+    ∙ ap (λ b. (b && is_eq (int_cmp elem kind)) && eq_by_cmp (slice_cmp place_cmp) face f) (same_ints phys tag)
+    ∙ ap (λ b. (int_eq tag phys && b) && eq_by_cmp (slice_cmp place_cmp) face f) (same_ints elem kind) in
+    ap (λ b. b || has side_cmp (face, (phys, elem)) (map (λ f. (f, (tag, kind))) fs)) first
+    ∙ ap (λ b. ((int_eq tag phys && int_eq kind elem) && eq_by_cmp (slice_cmp place_cmp) face f) || b) (in_region phys elem face tag kind fs)
+    ∙ both_or (int_eq tag phys && int_eq kind elem) (eq_by_cmp (slice_cmp place_cmp) face f) (has (slice_cmp place_cmp) face fs)
+
+-- those that have a face are as many as the definition counts
+count_holders : (phys elem : ℤ) (face : List Coordinates) (tets : List Tetrahedron) → count_by (has_side (face, (phys, elem))) tets ≡ holders phys elem face tets
+count_holders phys elem face tets = ap (λ f. count_by f tets) (λ i t. in_region phys elem face t.phys t.elem (faces_of t.corners) i)
+
+pub faces_met : (raw : Raw) (shift : ℕ) (tets : List Tetrahedron) → AreSolid tets → AllPairs AreApart tets → (phys elem : ℤ) (face : List Coordinates)
+    → IsPairedOrMarked (holders phys elem face tets) face (found_marks raw shift tets)
+faces_met raw shift tets solid apart phys elem face =
     let kept : List CellMark = filter_map (kept_mark (is_on tets) raw.nodes shift) raw.marks in
-    elim (which (count_by (has_side (face, region)) tets) (had_twice (face, region) tets apart)) [
+    let side : Side = (face, (phys, elem)) in
+    subst (λ n. IsPairedOrMarked n face (found_marks raw shift tets)) (count_holders phys elem face tets)
+    (elim (which (count_by (has_side side) tets) (had_twice side tets apart)) [
       | inl none ↦ inl none
       | inr some ↦ elim some [
         | inl twice ↦ inr (inl twice)
-        | inr once ↦ inr (inr (once, marked_once kept (face, region) tets solid once))
+        | inr once ↦ inr (inr (once, marked_once kept side tets solid once))
       ]
-    ]
+    ])

@@ -1,17 +1,16 @@
 -- Which places are in range: where the nodes of tetrahedra are, so are the places of each mark on a tetrahedron.
-use Rattle.std.proofs.Common.{◌≡◌, ℕ, ◌+◌, Bool, true, false, cond, not, ◌&&◌, ◌||◌, List, [], ◌∷◌, ◌++◌, Option, Some, None, refl, sym, ap, ◌∙◌, subst, inl, inr, ⊎_elim, ◌⊎◌}
+use Rattle.std.proofs.Common.{◌≡◌, ℕ, ◌+◌, true, false, cond, not, ◌||◌, List, [], ◌∷◌, ◌++◌, Option, Some, None, refl, sym, ap, ◌∙◌, subst, inl, inr, ⊎_elim, ◌⊎◌}
 use Rattle.std.specs.Prelude.{map}
-use Rattle.std.specs.FinMap.{IsAntisymmetric, nat_cmp-IsAntisymmetric}
+use Rattle.std.specs.FinMap.{nat_cmp-IsAntisymmetric}
 use Rattle.std.specs.List.{AllByRecursion, find, flat_map}
 use Rattle.std.specs.Option.{option_and_then, option_map}
-use Rattle.std.specs.Ordering.{is_eq, is_lt}
-use Rattle.std.specs.declared.cmp.Ordering.{Ordering}
+use Rattle.std.specs.Ordering.{is_eq}
 use Rattle.std.specs.declared.cmp.Ordering.TheVariants.{Less, Equal, Greater}
-use Rattle.std.proofs.lemmas.Bool.{false≢true}
+use Rattle.std.proofs.lemmas.Bool.{and_parts, false≢true}
 use Rattle.std.proofs.lemmas.List.Concat.{flat_map-cons}
 use Rattle.ma_geom.specs.Coordinates.{Coordinates, place_cmp}
 use Rattle.ma_geom.proofs.PlaceOrder.{place_cmp-IsAntisymmetric}
-use Rattle.ma_cells.specs.Ascending.{are_distinct, ascending_of, has, put}
+use Rattle.ma_cells.specs.Ascending.{are_distinct, ascending_of, has}
 use Rattle.ma_cells.specs.Cells.{CellMark, cell_of, cell_on, corners_of}
 use Rattle.ma_cells.specs.Faces.{holds_all}
 use Rattle.ma_cells.specs.Tetrahedron.{Tetrahedron}
@@ -22,28 +21,10 @@ use Rattle.msh_read.specs.declared.raw.RawTet.{RawTet}
 use Rattle.msh_read.specs.Raw.{Raw}
 use Rattle.mesh_check.specs.Accepted.{corner_places, mark_at, place_at, places_at, solid_at, solids_at}
 use Rattle.mesh_check.specs.FoundMarks.{kept_mark, moved_mark}
-use Rattle.mesh_check.specs.Marks.{is_on}
+use Rattle.ma_cells.specs.Incidence.{is_on}
 use Rattle.mesh_check.specs.Places.{corner_positions, is_in_range, place_of}
 use Rattle.mesh_check.specs.Solids.{places_of}
-use Rattle.mesh_check.proofs.Tied.{all-ascending_of}
-
-pub both_hold : (a b : Bool) → (a && b) ≡ true → (a ≡ true) × (b ≡ true)
-both_hold true b e = (refl, e)
-both_hold false b e = absurd (false≢true e)
-
--- what holds of the set of items holds of each
-from-put : {K : Type 0} {R : K → K → Ordering} → IsAntisymmetric R → (P : K → Type 0) (x : K) (ys : List K) → AllByRecursion P (put R x ys) → P x × AllByRecursion P ys
-from-put exact P x [] h = (h.0, tt)
-from-put {R = R} exact P x (y ∷ ys) h =
-    elim (R x y) as (λ r. R x y ≡ r → AllByRecursion P (cond (is_lt r) (x ∷ y ∷ ys) (cond (is_eq r) (y ∷ ys) (y ∷ put R x ys))) → P x × AllByRecursion P (y ∷ ys)) [
-      | Less ↦ λ _ k. (k.0, k.1)
-      | Equal ↦ λ e k. (subst P (sym (exact x y e)) k.0, k)
-      | Greater ↦ λ _ k. let rest = from-put exact P x ys k.1 in (rest.0, (k.0, rest.1))
-    ] refl h
-
-from-ascending_of : {K : Type 0} {R : K → K → Ordering} → IsAntisymmetric R → (P : K → Type 0) (xs : List K) → AllByRecursion P (ascending_of R xs) → AllByRecursion P xs
-from-ascending_of exact P [] h = tt
-from-ascending_of {R = R} exact P (x ∷ xs) h = let both = from-put exact P x (ascending_of R xs) h in (both.0, from-ascending_of exact P xs both.1)
+use Rattle.ma_cells.proofs.SetItems.{all-ascending_of, from-ascending_of}
 
 split : {K : Type 0} (P : K → Type 0) (xs ys : List K) → AllByRecursion P (xs ++ ys) → AllByRecursion P xs × AllByRecursion P ys
 split P [] ys h = (tt, h)
@@ -121,7 +102,7 @@ corner-in q (c ∷ cs) h e =
 
 held-in : (corners places : List Coordinates) → AllByRecursion In corners → holds_all corners places ≡ true → AllByRecursion In places
 held-in corners [] h e = tt
-held-in corners (p ∷ ps) h e = let both = both_hold (has place_cmp p corners) (holds_all corners ps) e in (corner-in p corners h both.0, held-in corners ps h both.1)
+held-in corners (p ∷ ps) h e = let both = and_parts (has place_cmp p corners) (holds_all corners ps) e in (corner-in p corners h both.0, held-in corners ps h both.1)
 
 cell-in : (cell : Cell) (tets : List Tetrahedron) → AllByRecursion (λ (t : Tetrahedron). AllByRecursion In t.corners) tets → is_on tets cell ≡ true → AllByRecursion In (corners_of cell)
 cell-in cell [] h e = absurd (false≢true e)

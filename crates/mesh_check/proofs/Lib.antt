@@ -11,3 +11,4 @@ pub mod Apart
 pub mod FaceCounts
 pub mod MarksOn
 pub mod Sound
+pub mod GreatestGrid

@@ -12,14 +12,14 @@ use Rattle.ma_geom.specs.Coordinates.{Coordinates}
 use Rattle.std.specs.Ordering.{eq_by_cmp}
 use Rattle.std.proofs.lemmas.List.Folds.{list_any-append}
 use Rattle.ma_cells.specs.Ascending.{ascending_of}
-use Rattle.ma_cells.specs.Cells.{CellMark, cell_of, is_cell, mark_cmp}
+use Rattle.ma_cells.specs.Cells.{CellMark, cell_of, is_cell, mark_cmp, mark_on}
 use Rattle.ma_cells.specs.declared.cell.Cell.{Cell}
 use Rattle.ma_cells.proofs.Ascents.{has-ascending_of, is-ascending_of, sorted-ascending_of}
 use Rattle.ma_cells.proofs.CellOrders.{mark_cmp_total, mark_cmp-IsAntisymmetric}
 use Rattle.ma_cells.proofs.Cornered.{is_cell-of}
 use Rattle.ma_cells.specs.Tetrahedron.{Tetrahedron}
 use Rattle.mesh_check.specs.Lone.{lone}
-use Rattle.mesh_check.specs.Marks.{mark_on, outer_marks, side_cmp, sides_of}
+use Rattle.mesh_check.specs.Marks.{outer_marks, side_cmp, sides_of}
 use Rattle.mesh_check.specs.FoundMarks.{kept_mark, moved_mark}
 
 -- whether there is an item that passes

@@ -1,17 +1,17 @@
 -- Each mark of an accepted mesh is on a cell of a tetrahedron.
-use Rattle.std.proofs.Common.{◌≡◌, ℕ, Bool, true, false, cond, ◌||◌, List, [], ◌∷◌, ◌++◌, Option, Some, None, option_map, refl, sym, ap, subst, ◌∙◌}
+use Rattle.std.proofs.Common.{◌≡◌, ℕ, Bool, true, false, cond, ◌||◌, List, [], ◌∷◌, ◌++◌, Option, Some, None, option_map, refl, sym, ap, subst}
 use Rattle.std.specs.Prelude.{ℤ, pos, map, IfSome}
 use Rattle.std.specs.Cmp.{IsTotalOrder, tied_itself}
-use Rattle.std.specs.List.{AllByRecursion, cons_option, filter, filter_map, flat_map, list_all, list_any}
+use Rattle.std.specs.List.{AllByRecursion, cons_option, filter_map, flat_map, list_all, list_any}
 use Rattle.std.specs.Option.{option_and_then}
 use Rattle.std.specs.Ordering.{eq_by_cmp, is_eq}
 use Rattle.std.specs.declared.cmp.Ordering.{Ordering}
-use Rattle.std.proofs.lemmas.Bool.{false≢true}
+use Rattle.std.proofs.lemmas.Bool.{or_right}
 use Rattle.std.proofs.lemmas.List.Concat.{flat_map-cons}
 use Rattle.ma_geom.specs.Coordinates.{Coordinates, place_cmp}
 use Rattle.ma_geom.proofs.PlaceOrder.{place_cmp_total}
 use Rattle.ma_cells.specs.Ascending.{ascending_of, has}
-use Rattle.ma_cells.specs.Cells.{CellMark, cell_of, mark_cmp}
+use Rattle.ma_cells.specs.Cells.{CellMark, cell_of, mark_cmp, mark_on}
 use Rattle.ma_cells.specs.Faces.{faces_of, holds_all}
 use Rattle.ma_cells.specs.Tetrahedron.{Tetrahedron}
 use Rattle.ma_cells.specs.declared.cell.Cell.{Cell}
@@ -20,59 +20,28 @@ use Rattle.msh_read.specs.declared.raw.RawMark.{RawMark}
 use Rattle.msh_read.specs.Raw.{Raw}
 use Rattle.mesh_check.specs.FoundMarks.{found_marks, kept_mark, moved_mark}
 use Rattle.mesh_check.specs.Lone.{lone}
-use Rattle.mesh_check.specs.Marks.{is_on, mark_on, outer_marks, side_cmp, sides_of}
-use Rattle.mesh_check.proofs.InRange.{both_hold, cell_of-corners}
-use Rattle.mesh_check.proofs.Tied.{all-ascending_of}
+use Rattle.ma_cells.specs.Incidence.{is_on}
+use Rattle.mesh_check.specs.Marks.{outer_marks, side_cmp, sides_of}
+use Rattle.mesh_check.proofs.InRange.{cell_of-corners}
+use Rattle.ma_cells.proofs.SetItems.{all-ascending_of}
+use Rattle.ma_cells.proofs.Passing.{all_pass, test_all, all_weaker, all-filter, all_anyway, any-weaker}
 
 -- ---- what holds of each item
-each_passes : {X : Type 0} (f : X → Bool) (xs : List X) → list_all f xs ≡ true → AllByRecursion (λ x. f x ≡ true) xs
-each_passes f [] e = tt
-each_passes f (x ∷ xs) e = let both = both_hold (f x) (list_all f xs) e in (both.0, each_passes f xs both.1)
-
-all_pass : {X : Type 0} (f : X → Bool) (xs : List X) → AllByRecursion (λ x. f x ≡ true) xs → list_all f xs ≡ true
-all_pass f [] h = refl
-all_pass f (x ∷ xs) h = rw (h.0) (all_pass f xs h.1)
-
-all-weaker : {X : Type 0} (P Q : X → Type 0) → ((x : X) → P x → Q x) → (xs : List X) → AllByRecursion P xs → AllByRecursion Q xs
-all-weaker P Q weaker [] h = tt
-all-weaker P Q weaker (x ∷ xs) h = (weaker x h.0, all-weaker P Q weaker xs h.1)
-
-all-filter : {X : Type 0} (P : X → Type 0) (f : X → Bool) (xs : List X) → AllByRecursion P xs → AllByRecursion P (filter f xs)
-all-filter P f [] h = tt
-all-filter P f (x ∷ xs) h =
-    let rest = all-filter P f xs h.1 in
-    elim (f x) as (λ b. AllByRecursion P (cond b (x ∷ filter f xs) (filter f xs))) [ true ↦ (h.0, rest) | false ↦ rest ]
 
 all-filter_map : {X Y : Type 0} (P : X → Type 0) (Q : Y → Type 0) (h : X → Option Y) → ((x : X) → P x → IfSome (h x) Q) → (xs : List X) → AllByRecursion P xs → AllByRecursion Q (filter_map h xs)
 all-filter_map P Q h gives [] all = tt
 all-filter_map P Q h gives (x ∷ xs) all =
     let rest = all-filter_map P Q h gives xs all.1 in
     elim (h x) as (λ o. IfSome o Q → AllByRecursion Q (cons_option o (filter_map h xs))) [ None ↦ λ _. rest | Some y ↦ λ holds. (holds, rest) ] (gives x all.0)
-
-every : {X : Type 0} (xs : List X) → AllByRecursion (λ (x : X). Unit {0}) xs
-every [] = tt
-every (x ∷ xs) = (tt, every xs)
-
-any-weaker : {X : Type 0} (f g : X → Bool) → ((x : X) → f x ≡ true → g x ≡ true) → (xs : List X) → list_any f xs ≡ true → list_any g xs ≡ true
-any-weaker f g weaker [] e = absurd (false≢true e)
-any-weaker f g weaker (x ∷ xs) e =
-    elim (f x) as (λ b. f x ≡ b → (b || list_any f xs) ≡ true → (g x || list_any g xs) ≡ true) [
-      | true ↦ λ passed _. ap (λ b. b || list_any g xs) (weaker x passed)
-      | false ↦ λ _ later. ap (λ b. g x || b) (any-weaker f g weaker xs later) ∙ or_true (g x)
-    ] refl e
   where
     or_true : (b : Bool) → (b || true) ≡ true
     or_true true = refl
     or_true false = refl
 
-or_later : (a b : Bool) → b ≡ true → (a || b) ≡ true
-or_later true b e = refl
-or_later false b e = e
-
 has_each : {K : Type 0} {R : K → K → Ordering} → IsTotalOrder R → (xs : List K) → AllByRecursion (λ x. has R x xs ≡ true) xs
 has_each o [] = tt
 has_each {R = R} o (x ∷ xs) =
-    (ap (λ r. is_eq r || has R x xs) (tied_itself o x), all-weaker (λ y. has R y xs ≡ true) (λ y. has R y (x ∷ xs) ≡ true) (λ y later. or_later (eq_by_cmp R y x) (has R y xs) later) xs (has_each o xs))
+    (ap (λ r. is_eq r || has R x xs) (tied_itself o x), all_weaker (λ y. has R y xs ≡ true) (λ y. has R y (x ∷ xs) ≡ true) (λ y later. or_right (eq_by_cmp R y x) (has R y xs) later) xs (has_each o xs))
 
 -- ---- cells of tetrahedra
 abbrev On : List Tetrahedron → CellMark → Type 0
@@ -89,7 +58,7 @@ kept_on test (Some mark) = elim (test mark.cell) as (λ b. test mark.cell ≡ b 
 with_region : (corners : List Coordinates) (region : ℤ × ℤ) (faces : List (List Coordinates)) → AllByRecursion (AllByRecursion (λ p. has place_cmp p corners ≡ true)) faces
     → AllByRecursion (λ (s : List Coordinates × (ℤ × ℤ)). holds_all corners s.0 ≡ true) (map (λ face. (face, region)) faces)
 with_region corners region [] h = tt
-with_region corners region (face ∷ faces) h = (all_pass (λ p. has place_cmp p corners) face h.0, with_region corners region faces h.1)
+with_region corners region (face ∷ faces) h = (test_all (λ p. has place_cmp p corners) face h.0, with_region corners region faces h.1)
 
 -- the faces of tetrahedra
 sides_on : (tets : List Tetrahedron) → AllByRecursion (SideOn tets) (flat_map sides_of tets)
@@ -97,13 +66,13 @@ sides_on [] = tt
 sides_on (t ∷ ts) =
     let own = with_region t.corners (t.phys, t.elem) (faces_of t.corners) (all-choices (λ p. has place_cmp p t.corners ≡ true) 3 t.corners (has_each place_cmp_total t.corners)) in
     subst (AllByRecursion (SideOn (t ∷ ts))) (sym (flat_map-cons sides_of t ts)) (all-append (SideOn (t ∷ ts)) (sides_of t) (flat_map sides_of ts)
-    (all-weaker (λ s. holds_all t.corners s.0 ≡ true) (SideOn (t ∷ ts)) (λ s e. ap (λ b. b || list_any (λ tet. holds_all tet.corners s.0) ts) e) (sides_of t) own)
-    (all-weaker (SideOn ts) (SideOn (t ∷ ts)) (λ s later. or_later (holds_all t.corners s.0) (list_any (λ tet. holds_all tet.corners s.0) ts) later) (flat_map sides_of ts) (sides_on ts)))
+    (all_weaker (λ s. holds_all t.corners s.0 ≡ true) (SideOn (t ∷ ts)) (λ s e. ap (λ b. b || list_any (λ tet. holds_all tet.corners s.0) ts) e) (sides_of t) own)
+    (all_weaker (SideOn ts) (SideOn (t ∷ ts)) (λ s later. or_right (holds_all t.corners s.0) (list_any (λ tet. holds_all tet.corners s.0) ts) later) (flat_map sides_of ts) (sides_on ts)))
 
 held_set : (corners places : List Coordinates) → holds_all corners places ≡ true → holds_all corners (ascending_of place_cmp places) ≡ true
 held_set corners places held =
     let test : Coordinates → Bool = λ p. has place_cmp p corners in
-    all_pass test (ascending_of place_cmp places) (all-ascending_of place_cmp (λ p. test p ≡ true) places (each_passes test places held))
+    test_all test (ascending_of place_cmp places) (all-ascending_of place_cmp (λ p. test p ≡ true) places (all_pass test places held))
 
 -- the mark on a face
 outer_on : (tets : List Tetrahedron) (s : List Coordinates × (ℤ × ℤ)) → SideOn tets s → IfSome (mark_on s.0 (pos 0) (pos 0)) (On tets)
@@ -118,7 +87,7 @@ outer_on tets s on =
 pub marks_on_cells : (raw : Raw) (shift : ℕ) (tets : List Tetrahedron) → list_all (λ mark. is_on tets mark.cell) (found_marks raw shift tets) ≡ true
 marks_on_cells raw shift tets =
     let kept : List CellMark = filter_map (kept_mark (is_on tets) raw.nodes shift) raw.marks in
-    let kept_all = all-filter_map (λ (m : RawMark). Unit {0}) (On tets) (kept_mark (is_on tets) raw.nodes shift) (λ m _. kept_on (is_on tets) (moved_mark raw.nodes shift m)) raw.marks (every raw.marks) in
+    let kept_all = all-filter_map (λ (m : RawMark). Unit {0}) (On tets) (kept_mark (is_on tets) raw.nodes shift) (λ m _. kept_on (is_on tets) (moved_mark raw.nodes shift m)) raw.marks (all_anyway raw.marks) in
     let sides = all-filter (SideOn tets) _ (flat_map sides_of tets) (sides_on tets) in
     let outer_all = all-filter_map (SideOn tets) (On tets) (λ side. mark_on side.0 (pos 0) (pos 0)) (outer_on tets) (lone side_cmp (flat_map sides_of tets)) sides in
-    all_pass (λ mark. is_on tets mark.cell) (found_marks raw shift tets) (all-ascending_of mark_cmp (On tets) (kept ++ outer_marks tets) (all-append (On tets) kept (outer_marks tets) kept_all outer_all))
+    test_all (λ mark. is_on tets mark.cell) (found_marks raw shift tets) (all-ascending_of mark_cmp (On tets) (kept ++ outer_marks tets) (all-append (On tets) kept (outer_marks tets) kept_all outer_all))

@@ -46,7 +46,7 @@ numbered-push n (y ∷ xs) x =
     ap (λ items. (y, n) ∷ items) (numbered-push (n + 1) xs x ∙ ap (λ k. numbered (n + 1) xs ++ (x, k) ∷ []) e)
 
 -- what follows of a step that went well
-then_ok : {A B E : Type 0} (first : Result A E) (next : A → Result B E) (y : B) → (first >>= next) ≡ Ok y → (x : A) × (first ≡ Ok x) × (next x ≡ Ok y)
+pub then_ok : {A B E : Type 0} (first : Result A E) (next : A → Result B E) (y : B) → (first >>= next) ≡ Ok y → (x : A) × (first ≡ Ok x) × (next x ≡ Ok y)
 then_ok (Ok x) next y e = (x, refl, e)
 then_ok (Err fault) next y e = absurd cc
 

@@ -1,38 +1,38 @@
 -- A mesh whose tetrahedra don't overlap, and whose outer faces are marked, is sound.
 use Rattle.std.proofs.Common.{◌≡◌, get_or, ℕ, true, List, None, sym, ap, subst, ◌∙◌, arith}
-use Rattle.std.specs.List.{AllPairs, list_all}
+use Rattle.std.specs.List.{AllPairs}
 use Rattle.std.proofs.lemmas.List.Sums.{AllPass-from_list_all}
 use Rattle.ma_cells.specs.Cells.{CellMark}
 use Rattle.ma_cells.specs.Meshes.{MarkedMesh}
-use Rattle.ma_cells.specs.Tetrahedron.{Tetrahedron, are_corners}
+use Rattle.ma_cells.specs.Tetrahedron.{Tetrahedron, are_corners, are_tetrahedra}
 use Rattle.overlap_check.specs.Overlap.{first_overlap_of}
 use Rattle.overlap_check.proofs.NoOverlap.{all_separated, no_overlap_covers_once}
 use Rattle.msh_read.specs.Raw.{Raw}
 use Rattle.mesh_check.specs.FoundMarks.{found_marks}
-use Rattle.mesh_check.specs.Sound.{IsSound}
+use Rattle.ma_cover.specs.Sound.{IsSound}
 use Rattle.mesh_check.proofs.FaceCounts.{AreApart, AreSolid, faces_met, lie_apart}
 use Rattle.mesh_check.proofs.MarksOn.{marks_on_cells}
 
 all_apart : (tets : List Tetrahedron) → AreSolid tets → first_overlap_of tets ≡ None → AllPairs AreApart tets
 all_apart tets solid none = λ i j d low high. (solid i d (omega (arith, low, high)), (solid j d high, all_separated tets none i j d low high))
 
-mesh_is_sound : (raw : Raw) (shift loose : ℕ) (tets : List Tetrahedron) → list_all (λ tet. are_corners tet.corners) tets ≡ true → first_overlap_of tets ≡ None
-    → IsSound (record { tets = tets; marks = found_marks raw shift tets; loose = loose })
-mesh_is_sound raw shift loose tets are none =
+pub mesh_is_sound : (raw : Raw) (shift : ℕ) (tets : List Tetrahedron) → are_tetrahedra tets ≡ true → first_overlap_of tets ≡ None
+    → IsSound tets (found_marks raw shift tets)
+mesh_is_sound raw shift tets are none =
     let solid = AllPass-from_list_all (λ tet. are_corners tet.corners) tets are in
     let apart = all_apart tets solid none in
     record {
       conforming = record {
         sides = λ i j d low high. lie_apart (get_or tets i d) (get_or tets j d) (apart i j d low high);
-        faces = λ face region. faces_met raw shift loose tets solid apart face region;
-        marks = marks_on_cells raw shift tets;
+        faces = λ phys elem face. faces_met raw shift tets solid apart phys elem face;
+        on_cells = marks_on_cells raw shift tets;
       };
       once = λ p. no_overlap_covers_once p tets none;
     }
 
 -- the mesh with these tetrahedra, read once as a slice, and with its marks
-pub sound-is : (raw : Raw) (shift : ℕ) (tets slice : List Tetrahedron) (marks : List CellMark) (loose : ℕ) (mesh : MarkedMesh) → list_all (λ tet. are_corners tet.corners) tets ≡ true → first_overlap_of tets ≡ None
-    → slice ≡ tets → marks ≡ found_marks raw shift slice → mesh ≡ record { tets = tets; marks = marks; loose = loose } → IsSound mesh
+pub sound-is : (raw : Raw) (shift : ℕ) (tets slice : List Tetrahedron) (marks : List CellMark) (loose : ℕ) (mesh : MarkedMesh) → are_tetrahedra tets ≡ true → first_overlap_of tets ≡ None
+    → slice ≡ tets → marks ≡ found_marks raw shift slice → mesh ≡ record { tets = tets; marks = marks; loose = loose } → IsSound mesh.tets mesh.marks
 sound-is raw shift tets slice marks loose mesh are none same found is =
-    let marks' = found ∙ ap (found_marks raw shift) same in
-    subst IsSound (sym (is ∙ λ i. record { tets = tets; marks = marks' i; loose = loose })) (mesh_is_sound raw shift loose tets are none)
+    let marked : IsSound tets marks = subst (IsSound tets) (sym (found ∙ ap (found_marks raw shift) same)) (mesh_is_sound raw shift tets are none) in
+    subst (λ (m : MarkedMesh). IsSound m.tets m.marks) (sym is) marked

@@ -16,6 +16,7 @@ use Rattle.ma_cells.specs.Ascending.{ascending_of, put}
 use Rattle.ma_cells.proofs.Ascents.{sorted-ascending_of}
 use Rattle.mesh_check.specs.Pairs.{first_pair, first_with, paired}
 use Rattle.mesh_check.specs.Ties.{lower, lowest_tie, numbered_cmp, tie}
+use Rattle.ma_cells.proofs.SetItems.{all-ascending_of}
 
 lower-none : (p : Option (ℕ × ℕ)) → lower p None ≡ p
 lower-none None = refl
@@ -84,19 +85,6 @@ gives_way R y m n p (b ∷ items) h =
       | true ↦ rw first refl
       | false ↦ refl
     ]
-
-all-put : {K : Type 0} (R : K → K → Ordering) (P : K → Type 0) (x : K) (ys : List K) → P x → AllByRecursion P ys → AllByRecursion P (put R x ys)
-all-put R P x [] p h = (p, tt)
-all-put R P x (y ∷ ys) p h =
-    elim (R x y) as (λ r. AllByRecursion P (cond (is_lt r) (x ∷ y ∷ ys) (cond (is_eq r) (y ∷ ys) (y ∷ put R x ys)))) [
-      | Less ↦ (p, h)
-      | Equal ↦ h
-      | Greater ↦ (h.0, all-put R P x ys p h.1)
-    ]
-
-pub all-ascending_of : {K : Type 0} (R : K → K → Ordering) (P : K → Type 0) (xs : List K) → AllByRecursion P xs → AllByRecursion P (ascending_of R xs)
-all-ascending_of R P [] h = tt
-all-ascending_of R P (x ∷ xs) h = all-put R P x (ascending_of R xs) h.0 (all-ascending_of R P xs h.1)
 
 -- the numbers rise
 abbrev Rise : {K : Type 0} → List (K × ℕ) → Type 0

@@ -7,8 +7,7 @@ use Rattle.ma_cells.specs.Tetrahedron.{Tetrahedron}
 use Rattle.msh_read.specs.Raw.{Raw}
 use Rattle.msh_read.specs.Steps.{◌>>=◌, ◌>>◌}
 use Rattle.mesh_check.specs.Accepted.{apart}
-use Rattle.mesh_check.specs.FoundMarks.{found_of}
-use Rattle.mesh_check.specs.FoundMarks.{found_loose, found_marks}
+use Rattle.mesh_check.specs.FoundMarks.{found_of, found_loose, found_marks}
 use Rattle.mesh_check.specs.Solids.{tets_of}
 
 -- the mesh with these tetrahedra, read once as a slice, and with its marks

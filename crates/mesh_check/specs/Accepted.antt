@@ -5,19 +5,20 @@ use Rattle.std.specs.List.{filter_map, find}
 use Rattle.std.specs.Option.{is_none, option_and_then, option_map}
 use Rattle.ma_geom.specs.Coordinates.{Coordinates, place_cmp}
 use Rattle.ma_cells.specs.Ascending.{ascending_of}
-use Rattle.ma_cells.specs.Cells.{CellMark, mark_cmp}
+use Rattle.ma_cells.specs.Cells.{CellMark, mark_cmp, mark_on}
 use Rattle.ma_cells.specs.Meshes.{MarkedMesh, corner_sets}
 use Rattle.ma_cells.specs.Tetrahedron.{Tetrahedron, is_flat}
 use Rattle.msh_read.specs.declared.raw.RawMark.{RawMark}
 use Rattle.msh_read.specs.declared.raw.RawTet.{RawTet}
-use Rattle.msh_read.specs.Raw.{Raw}
+use Rattle.msh_read.specs.Raw.{Raw, node_at}
 use Rattle.msh_read.specs.Steps.{◌>>◌, check}
 use Rattle.mesh_check.specs.declared.fault.MeshFault.{MeshFault}
 use Rattle.mesh_check.specs.declared.fault.MeshFault.TheVariants.{NoTets, TooManyTets, TooFar, SamePlace, Flat, Repeated, Overlap}
 use Rattle.overlap_check.specs.Overlap.{first_overlap_of}
 use Rattle.mesh_check.specs.Pairs.{first_pair, numbered}
-use Rattle.mesh_check.specs.Places.{corner_positions, is_in_range, node_at, shifted}
-use Rattle.mesh_check.specs.Marks.{is_on, mark_on, outer_marks}
+use Rattle.mesh_check.specs.Places.{corner_positions, is_in_range, shifted}
+use Rattle.ma_cells.specs.Incidence.{is_on}
+use Rattle.mesh_check.specs.Marks.{outer_marks}
 
 -- how many tetrahedra a mesh may have
 abbrev pub most_tets : ℕ

@@ -4,7 +4,7 @@ use Rattle.std.specs.List.{filter_map}
 use Rattle.std.specs.Option.{is_none, option_and_then}
 use Rattle.ma_geom.specs.Coordinates.{Coordinates}
 use Rattle.ma_cells.specs.Ascending.{ascending_of}
-use Rattle.ma_cells.specs.Cells.{CellMark, mark_cmp}
+use Rattle.ma_cells.specs.Cells.{CellMark, mark_cmp, mark_on}
 use Rattle.ma_cells.specs.Meshes.{MarkedMesh}
 use Rattle.ma_cells.specs.Tetrahedron.{Tetrahedron}
 use Rattle.ma_cells.specs.declared.cell.Cell.{Cell}
@@ -13,7 +13,8 @@ use Rattle.msh_read.specs.Raw.{Raw}
 use Rattle.msh_read.specs.Steps.{◌>>=◌, ◌>>◌}
 use Rattle.mesh_check.specs.Accepted.{apart}
 use Rattle.mesh_check.specs.declared.fault.MeshFault.{MeshFault}
-use Rattle.mesh_check.specs.Marks.{is_on, mark_on, outer_marks}
+use Rattle.ma_cells.specs.Incidence.{is_on}
+use Rattle.mesh_check.specs.Marks.{outer_marks}
 use Rattle.mesh_check.specs.Solids.{places_of, tets_of}
 
 -- a mark after the shift, if its places are in range and differ

@@ -6,6 +6,4 @@ pub mod Accepted
 pub mod Answer
 pub mod Ties
 pub mod Solids
-pub mod CellsOf
 pub mod FoundMarks
-pub mod Sound

@@ -1,24 +1,14 @@
 -- The marks of an accepted mesh.
-use Rattle.std.specs.Prelude.{Bool, ℤ, pos, List, Option, map}
+use Rattle.std.specs.Prelude.{ℤ, pos, List, map}
 use Rattle.std.specs.declared.cmp.Ordering.{Ordering}
 use Rattle.std.specs.Cmp.Lexicographic.{slice_cmp}
-use Rattle.std.specs.List.{filter_map, flat_map, list_any}
-use Rattle.std.specs.Option.{option_map}
+use Rattle.std.specs.List.{filter_map, flat_map}
 use Rattle.std.specs.Ordering.{int_cmp, ordering_then}
 use Rattle.ma_geom.specs.Coordinates.{Coordinates, place_cmp}
-use Rattle.ma_cells.specs.Cells.{CellMark, cell_of, corners_of}
-use Rattle.ma_cells.specs.Faces.{faces_of, holds_all}
+use Rattle.ma_cells.specs.Cells.{CellMark, mark_on}
+use Rattle.ma_cells.specs.Faces.{faces_of}
 use Rattle.ma_cells.specs.Tetrahedron.{Tetrahedron}
-use Rattle.ma_cells.specs.declared.cell.Cell.{Cell}
 use Rattle.mesh_check.specs.Lone.{lone}
-
--- whether a cell is a corner, an edge or a face of a tetrahedron
-abbrev pub is_on : List Tetrahedron → Cell → Bool
-is_on tets cell = list_any (λ tet. holds_all tet.corners (corners_of cell)) tets
-
--- the mark with this tag on the cell with these corners, if they are one to three and no two are equal
-abbrev pub mark_on : List Coordinates → ℤ → ℤ → Option CellMark
-mark_on corners phys elem = option_map (λ cell. record { cell = cell; phys = phys; elem = elem }) (cell_of corners)
 
 -- the faces of a tetrahedron, each with its region
 abbrev pub sides_of : Tetrahedron → List (List Coordinates × (ℤ × ℤ))

@@ -1,10 +1,11 @@
 -- Nodes of tetrahedra, and their places after a shift.
-use Rattle.std.specs.Prelude.{ℕ, ◌+◌, ◌^◌, nat_le, Bool, ◌&&◌, if◌then◌else◌, ℤ, pos, ◌*ℤ◌, unsigned_abs, List, slice_index_or, Option, Some, None, Result, Ok}
+use Rattle.std.specs.Prelude.{ℕ, ◌+◌, ◌^◌, nat_le, Bool, ◌&&◌, if◌then◌else◌, ℤ, pos, ◌*ℤ◌, unsigned_abs, List, Option, Some, None, Result, Ok}
 use Rattle.std.specs.List.{flat_map}
 use Rattle.std.specs.Ordering.{nat_cmp}
 use Rattle.ma_geom.specs.Coordinates.{Coordinates, limit}
 use Rattle.ma_cells.specs.Ascending.{ascending_of}
 use Rattle.msh_read.specs.declared.raw.RawTet.{RawTet}
+use Rattle.msh_read.specs.Raw.{node_at}
 use Rattle.msh_read.specs.Steps.{◌>>=◌, or_fault}
 use Rattle.mesh_check.specs.declared.fault.MeshFault.{MeshFault}
 use Rattle.mesh_check.specs.declared.fault.MeshFault.TheVariants.{TooFar}
@@ -23,10 +24,6 @@ is_in_range p = is_near p.x && is_near p.y && is_near p.z
 -- the place, if it is in range
 abbrev pub within_range : Coordinates → Option Coordinates
 within_range p = if is_in_range p then Some p else None
-
--- the place of a node
-abbrev pub node_at : List Coordinates → ℕ → Coordinates
-node_at nodes at = slice_index_or nodes at (record { x = pos 0; y = pos 0; z = pos 0 })
 
 -- the place of a node after the shift, if it is in range
 unfoldable pub place_of : List Coordinates → ℕ → ℕ → Option Coordinates

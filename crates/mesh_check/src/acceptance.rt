@@ -1,15 +1,11 @@
 // Acceptance of a mesh that was read.
-ghost use Rattle.std.specs.Prelude.{◌≡◌, ◌≤◌, IfOk, None, true};
-ghost use Rattle.ma_geom.specs.Rational.{Rational};
-ghost use Rattle.ma_cover.specs.Cover.{whole_cover};
-ghost use Rattle.overlap_check.specs.Overlap.{first_overlap_of};
-ghost use Rattle.std.specs.List.{list_all};
-ghost use Rattle.ma_cells.specs.Tetrahedron.{are_corners};
+ghost use Rattle.std.specs.Prelude.{◌≡◌, ◌≤◌, IfOk, true};
+ghost use Rattle.ma_cells.specs.Tetrahedron.{are_tetrahedra};
 ghost use Rattle.msh_read.specs.Raw.{raw};
 ghost use Rattle.mesh_check.specs.Accepted.{accepted_of, apart};
 ghost use Rattle.mesh_check.specs.Answer.{Answers};
 ghost use Rattle.mesh_check.specs.FoundMarks.{found_of};
-ghost use Rattle.mesh_check.specs.Sound.{IsSound};
+ghost use Rattle.ma_cover.specs.Sound.{IsSound};
 
 use crate::fault::MeshFault;
 use crate::marks::marks;
@@ -37,9 +33,8 @@ fn apart(alloc: Global, tets: &[Tet]) -> Result<(), MeshFault>
 fn found(alloc: Global, mesh: &RawMesh, shift: u32) -> Result<Mesh, MeshFault>
     requires { shift ≤ 30 }
     ensures value { Answers (λ mesh. mesh) result (found_of (raw mesh.now) shift) }
-    ensures solid { IfOk result (λ mesh. list_all (λ tet. are_corners tet.corners) mesh.tets ≡ true) }
-    ensures once { IfOk result (λ mesh. first_overlap_of mesh.tets ≡ None) }
-    ensures sound { IfOk result (λ mesh. IsSound mesh) }
+    ensures solid { IfOk result (λ mesh. are_tetrahedra mesh.tets ≡ true) }
+    ensures sound { IfOk result (λ mesh. IsSound mesh.tets mesh.marks) }
 {
     let tets = tets(alloc, mesh, shift)?;
     apart(alloc, tets.as_slice())?;
@@ -56,10 +51,8 @@ fn found(alloc: Global, mesh: &RawMesh, shift: u32) -> Result<Mesh, MeshFault>
 pub fn accept(alloc: Global, mesh: &RawMesh, shift: u32) -> Result<Mesh, MeshFault>
     requires { shift ≤ 30 }
     ensures exact { Answers (λ mesh. mesh) result (accepted_of (raw mesh.now) shift) }
-    ensures solid { IfOk result (λ mesh. list_all (λ tet. are_corners tet.corners) mesh.tets ≡ true) }
-    // No rational point is within two of its tetrahedra.
-    ensures once { IfOk result (λ mesh. (p : Rational) → whole_cover p mesh.tets ≤ 1) }
-    ensures sound { IfOk result (λ mesh. IsSound mesh) }
+    ensures solid { IfOk result (λ mesh. are_tetrahedra mesh.tets ≡ true) }
+    ensures sound { IfOk result (λ mesh. IsSound mesh.tets mesh.marks) }
 {
     found(alloc, mesh, shift)
 }

@@ -4,6 +4,7 @@
 mod acceptance;
 mod cells;
 mod fault;
+mod grids;
 mod lone;
 mod marks;
 mod pairs;
@@ -12,6 +13,7 @@ mod solids;
 
 pub use acceptance::accept;
 pub use fault::MeshFault;
+pub use grids::grid;
 
 #[cfg(test)]
 mod tests;

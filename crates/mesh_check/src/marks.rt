@@ -3,10 +3,11 @@ ghost use Rattle.std.specs.Prelude.{◌≡◌, ◌≤◌, ◌∷◌, [], ◌++�
 ghost use Rattle.std.specs.List.{filter_map, flat_map, list_any};
 ghost use Rattle.std.specs.Option.{is_none, option_to_list};
 ghost use Rattle.ma_cells.specs.Ascending.{ascending_of, has};
-ghost use Rattle.ma_cells.specs.Cells.{CellMark, cell_cmp, mark_cmp};
+ghost use Rattle.ma_cells.specs.Cells.{CellMark, cell_cmp, mark_cmp, mark_on};
 ghost use Rattle.msh_read.specs.Raw.{raw};
 ghost use Rattle.mesh_check.specs.Solids.{places_of};
-ghost use Rattle.mesh_check.specs.Marks.{is_on, mark_on, outer_marks, sides_of};
+ghost use Rattle.ma_cells.specs.Incidence.{is_on};
+ghost use Rattle.mesh_check.specs.Marks.{outer_marks, sides_of};
 ghost use Rattle.mesh_check.specs.FoundMarks.{kept_mark, found_loose, found_marks, moved_mark};
 
 use crate::cells::{cell_set, has_cell};

@@ -1,8 +1,9 @@
 // Nodes of tetrahedra, and their places after a shift.
 ghost use Rattle.std.specs.Prelude.{◌≡◌, ◌≤◌, ◌^◌, ◌*ℤ◌, pos, IfOk, Some, None, if◌then◌else◌};
+ghost use Rattle.msh_read.specs.Raw.{node_at};
 ghost use Rattle.msh_read.specs.Steps.{each};
 ghost use Rattle.mesh_check.specs.Answer.{Answers};
-ghost use Rattle.mesh_check.specs.Places.{corner_positions, is_near, node_at, numbered_place, place_of, shifted, within_range};
+ghost use Rattle.mesh_check.specs.Places.{corner_positions, is_near, numbered_place, place_of, shifted, within_range};
 
 use crate::fault::MeshFault;
 use ma_cells::Ascending;

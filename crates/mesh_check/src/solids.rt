@@ -1,7 +1,6 @@
 // The tetrahedra of a raw mesh as sets of places.
 ghost use Rattle.std.specs.Prelude.{true, ◌≡◌, ◌≤◌, ◌∷◌, [], IfOk, map};
-ghost use Rattle.std.specs.List.{list_all};
-ghost use Rattle.ma_cells.specs.Tetrahedron.{are_corners};
+ghost use Rattle.ma_cells.specs.Tetrahedron.{are_tetrahedra};
 ghost use Rattle.std.specs.List.Sorted.{IsStrictlySortedBy};
 ghost use Rattle.std.specs.Ordering.{nat_cmp};
 ghost use Rattle.std.specs.Cmp.Lexicographic.{slice_cmp};
@@ -141,7 +140,7 @@ fn solids(alloc: Global, mesh: &RawMesh, shift: u32) -> Result<Vec<Tet>, MeshFau
     requires { shift ≤ 30 }
     ensures value { Answers (λ solids. solids.items) result (solids_of (raw mesh.now) shift) }
     ensures once { IfOk result (λ solids. are_listed_once solids.items ≡ true) }
-    ensures solid { IfOk result (λ solids. list_all (λ tet. are_corners tet.corners) solids.items ≡ true) }
+    ensures solid { IfOk result (λ solids. are_tetrahedra solids.items ≡ true) }
 {
     let solids = numbered_solids(alloc, mesh.nodes.as_slice(), shift, mesh.tets.as_slice())?;
     let sets = numbered_corners(alloc, solids.as_slice())?;
@@ -157,7 +156,7 @@ pub fn tets(alloc: Global, mesh: &RawMesh, shift: u32) -> Result<Vec<Tet>, MeshF
     requires { shift ≤ 30 }
     ensures value { Answers (λ tets. tets.items) result (tets_of (raw mesh.now) shift) }
     ensures once { IfOk result (λ tets. are_listed_once tets.items ≡ true) }
-    ensures solid { IfOk result (λ tets. list_all (λ tet. are_corners tet.corners) tets.items ≡ true) }
+    ensures solid { IfOk result (λ tets. are_tetrahedra tets.items ≡ true) }
 {
     counted(mesh.tets.as_slice())?;
     placed(alloc, mesh, shift)?;

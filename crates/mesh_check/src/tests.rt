@@ -85,7 +85,7 @@ fn each_fault_names_the_least_positions(rt: HostRuntime) -> Result<(), Fail> {
     let far = place(1 << 30, 0, 0)?;
     let level = place(8, 8, 0)?;
     let again = place(0, 8, 0)?;
-    let rows: [(Place, &[RawTet], u32, Option<MeshFault>); 8] = [
+    let rows: [(Place, &[RawTet], u32, Option<MeshFault>); 9] = [
         (level, &[whole], 0, None),
         (again, &[whole], 0, None),
         (level, &[], 0, Some(NoTets)),
@@ -94,6 +94,7 @@ fn each_fault_names_the_least_positions(rt: HostRuntime) -> Result<(), Fail> {
         (level, &[other], 0, Some(Flat(1))),
         (level, &[whole, other], 0, Some(Flat(2))),
         (level, &[whole, turned], 0, Some(Repeated(1, 2))),
+        (level, &[whole, turned, other], 0, Some(Flat(3))),
     ];
     for (fifth, tets, shift, expected) in rows {
         assert!(rt; fault(rt.alloc(), fifth, tets, shift)? == expected);
@@ -163,6 +164,20 @@ fn lines_on_edges_are_kept_and_others_are_loose(rt: HostRuntime) -> Result<(), F
             .ok()
             .ok_or("the mesh is refused")?;
         assert!(rt; counts(&mesh) == expected);
+    }
+    Ok(())
+}
+
+#[test]
+fn the_grid_of_a_side_of_8_is_3_and_grows_with_the_shift(rt: HostRuntime) -> Result<(), Fail> {
+    let fifth = place(1, 0, 0)?;
+    let tets = [tet([0, 1, 2, 3], 0, 1)];
+    for (shift, expected) in [(0, 3), (1, 4), (27, 30)] {
+        let mesh = raw(rt.alloc(), fifth, &tets, Vec::new(rt.alloc()))?;
+        let mesh = accept(rt.alloc(), &mesh, shift)
+            .ok()
+            .ok_or("the mesh is refused")?;
+        assert_eq!(rt; grid(&mesh), expected);
     }
     Ok(())
 }

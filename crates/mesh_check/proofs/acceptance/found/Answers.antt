@@ -1,5 +1,4 @@
 use Rattle.std.proofs.Common.{ap, sym, ◌∙◌}
-use Rattle.ma_cells.specs.Meshes.{MarkedMesh}
 use Rattle.overlap_check.specs.Overlap.{first_overlap_of}
 use Rattle.msh_read.specs.Raw.{raw}
 use Rattle.mesh_check.specs.Accepted.{apart}
@@ -12,11 +11,6 @@ pub returns-clause-value : goal.returns-clause-value
 returns-clause-value c =
     found-is (raw c.args.mesh.now) c.args.shift c.in_ok-tets.tets.items c.as_slice-2.result.now _ _ c.new.result
     c.in_ok-tets.ensures.value (ap apart (sym c.as_slice.ensures.value) ∙ c.in_ok-apart.ensures) c.as_slice-2.ensures.value c.in_ok-marks.ensures.marks c.in_ok-marks.ensures.loose c.new.ensures
-
-pub returns-clause-once : goal.returns-clause-once
-returns-clause-once c =
-    let mesh = c.new.ensures in
-    ap (λ (m : MarkedMesh). first_overlap_of m.tets) mesh ∙ ap first_overlap_of (sym c.as_slice.ensures.value) ∙ none_overlaps (first_overlap_of c.as_slice.result.now) c.in_ok-apart.ensures
 
 pub returns-clause-sound : goal.returns-clause-sound
 returns-clause-sound c =

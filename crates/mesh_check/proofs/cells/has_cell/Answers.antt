@@ -3,4 +3,4 @@ use Rattle.mesh_check.proofs.CellSets.{has-derived}
 use Rattle.mesh_check.proofs.cells.has_cell.Goals as goal
 
 pub returns : goal.returns
-returns c = c.is_in.ensures ∙ has-derived c.args.cell c.args.cells.now
+returns c = c.contains.ensures ∙ has-derived c.args.cell c.args.cells.now

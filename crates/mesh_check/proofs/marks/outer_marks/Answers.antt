@@ -1,6 +1,6 @@
 use Rattle.std.proofs.Common.{◌∙◌, ap, pos}
 use Rattle.std.specs.List.{filter_map}
-use Rattle.mesh_check.specs.Marks.{mark_on}
+use Rattle.ma_cells.specs.Cells.{mark_on}
 use Rattle.mesh_check.proofs.Marking.{outer-is}
 use Rattle.mesh_check.proofs.marks.outer_marks.Goals as goal
 

@@ -1,5 +1,5 @@
 use Rattle.std.proofs.Common.{pos}
-use Rattle.mesh_check.specs.Marks.{mark_on}
+use Rattle.ma_cells.specs.Cells.{mark_on}
 use Rattle.mesh_check.proofs.Marking.{filter_map_on}
 use Rattle.mesh_check.proofs.marks.side_marks.Goals as goal
 

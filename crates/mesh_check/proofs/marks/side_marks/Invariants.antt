@@ -1,6 +1,6 @@
 use Rattle.std.proofs.Common.{◌≡◌, take, pos}
 use Rattle.std.specs.List.{filter_map}
-use Rattle.mesh_check.specs.Marks.{mark_on}
+use Rattle.ma_cells.specs.Cells.{mark_on}
 use Rattle.mesh_check.proofs.marks.side_marks.Given as goal
 
 abbrev pub invariant-loop-side : goal.invariant-loop-side
