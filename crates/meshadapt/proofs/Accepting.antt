@@ -1,21 +1,18 @@
 -- The tetrahedra of a mesh that is accepted aren't flat, and what holds of their corners holds of those of its marks.
-use Rattle.std.proofs.Common.{◌≡◌, ℕ, Bool, true, false, cond, ◌&&◌, ◌||◌, List, [], ◌∷◌, ◌++◌, refl, sym, subst, ap, ◌∙◌, pos, inl, inr}
-use Rattle.std.specs.Prelude.{ℤ, not, ◌⊎◌, ◌≤◌, Option, Some, None, Result, Ok, Err}
-use Rattle.std.specs.declared.cmp.Ordering.{Ordering}
-use Rattle.std.specs.declared.cmp.Ordering.TheVariants.{Less, Equal, Greater}
+use Rattle.std.proofs.Common.{◌≡◌, ℕ, Bool, true, false, cond, ◌&&◌, List, [], ◌∷◌, ◌++◌, refl, sym, subst, ap, ◌∙◌, pos, inl, inr}
+use Rattle.std.specs.Prelude.{ℤ, not, Option, Some, None, Result, Ok, Err}
 use Rattle.std.specs.Cmp.{Equal-is}
 use Rattle.std.specs.Cmp.Lexicographic.{slice_cmp}
-use Rattle.std.specs.FinMap.{IsAntisymmetric}
 use Rattle.std.specs.List.{AllByRecursion, filter_map, flat_map}
 use Rattle.std.specs.Option.{option_and_then, option_map}
-use Rattle.std.specs.Ordering.{eq_by_cmp, is_eq, is_lt}
-use Rattle.std.proofs.lemmas.Bool.{false≢true}
+use Rattle.std.specs.Ordering.{eq_by_cmp}
+use Rattle.std.proofs.lemmas.Bool.{and_parts, false≢true, or_cases}
 use Rattle.ma_geom.specs.Coordinates.{Coordinates, place_cmp}
 use Rattle.ma_geom.proofs.PlaceOrder.{place_cmp_total, place_cmp-IsAntisymmetric}
-use Rattle.ma_cells.specs.Ascending.{are_ascending, are_distinct, ascending_of, has, put}
-use Rattle.ma_cells.specs.Cells.{CellMark, cell_of, cell_on, corners_of, mark_cmp}
+use Rattle.ma_cells.specs.Ascending.{are_ascending, are_distinct, ascending_of, has}
+use Rattle.ma_cells.specs.Cells.{CellMark, cell_of, cell_on, corners_of, mark_cmp, mark_on}
 use Rattle.ma_cells.specs.Faces.{faces_of, holds_all}
-use Rattle.ma_cells.specs.Meshes.{MarkedMesh, corner_sets}
+use Rattle.ma_cells.specs.Meshes.{MarkedMesh, are_listed_once, corner_sets}
 use Rattle.ma_cells.specs.Tetrahedron.{Tetrahedron, are_corners, is_flat, tetrahedron_of}
 use Rattle.ma_cells.specs.declared.cell.Cell.{Cell}
 use Rattle.ma_cells.proofs.Ascents.{ascending_from_strict, sorted-ascending_of}
@@ -23,7 +20,8 @@ use Rattle.ma_cells.proofs.Choices.{all-append, all-choices}
 use Rattle.mesh_check.specs.Accepted.{accepted_of, apart, no_pair}
 use Rattle.mesh_check.specs.FoundMarks.{found_loose, found_marks, found_of, kept_mark, moved_mark}
 use Rattle.mesh_check.specs.Lone.{lone}
-use Rattle.mesh_check.specs.Marks.{is_on, mark_on, outer_marks, side_cmp, sides_of}
+use Rattle.ma_cells.specs.Incidence.{is_on}
+use Rattle.mesh_check.specs.Marks.{outer_marks, side_cmp, sides_of}
 use Rattle.mesh_check.specs.Pairs.{first_pair, numbered}
 use Rattle.mesh_check.specs.Solids.{counted, numbered_solid, placed, places_of, solid_of, solids_of, tets_of}
 use Rattle.mesh_check.specs.declared.fault.MeshFault.TheVariants.{Flat, Repeated}
@@ -32,14 +30,19 @@ use Rattle.msh_read.specs.Steps.{◌>>◌, each, or_fault}
 use Rattle.msh_read.specs.declared.raw.RawMark.{RawMark}
 use Rattle.msh_read.specs.declared.raw.RawTet.{RawTet}
 use Rattle.mesh_check.proofs.Apart.{none_overlaps}
+use Rattle.mesh_check.proofs.Numbered.{distinct-no_pair, then_ok}
+use Rattle.mesh_check.proofs.Sound.{mesh_is_sound}
 use Rattle.mesh_check.proofs.Bridge.{found-accepted}
 use Rattle.overlap_check.specs.Overlap.{first_overlap_of}
-use Rattle.overlap_check.proofs.NoOverlap.{no_overlap_covers_once}
-use Rattle.ma_cover.specs.Cover.{whole_cover}
-use Rattle.ma_geom.specs.Rational.{Rational}
-use Rattle.one_mesh.proofs.Passing.{all-filter, all-flat_map, all-map, both_pass}
-use Rattle.split_templates.proofs.Sets.{all-ascending_of}
-use Rattle.meshadapt.proofs.Reading.{all_anyway, all_given, all_read, bound, ok_is, passed, some_is}
+use Rattle.ma_cover.specs.Sound.{IsSound}
+use Rattle.ma_cells.proofs.Passing.{all-filter, all-flat_map, all-map, all_anyway, test_all}
+use Rattle.meshadapt.proofs.Reading.{all_given, all_read, ok_is, passed, some_is}
+use Rattle.ma_cells.proofs.SetItems.{all-ascending_of}
+
+-- a test that a step came after was passed
+first_passed : {A E : Type 0} (test : Result (Unit {0}) E) (x : Result A E) (y : A) → (test >> x) ≡ Ok y → test ≡ Ok tt
+first_passed (Ok t) x y e = refl
+first_passed (Err fault) x y e = absurd cc
 
 abbrev pub IsSolid : Tetrahedron → Type 0
 IsSolid tet = are_corners tet.corners ≡ true
@@ -76,38 +79,33 @@ solids_solid : (raw : Raw) (shift : ℕ) (tets : List Tetrahedron) → solids_of
 unfolding solids_of
 solids_solid raw shift tets e =
     let alone : List Tetrahedron → Option (ℕ × ℕ) = λ solids. first_pair (slice_cmp place_cmp) (numbered 1 (corner_sets solids)) in
-    let read = bound (each (numbered_solid raw.nodes shift) (numbered 1 raw.tets)) (λ solids. no_pair Repeated (alone solids) >> Ok solids) tets e in
+    let read = then_ok (each (numbered_solid raw.nodes shift) (numbered 1 raw.tets)) (λ solids. no_pair Repeated (alone solids) >> Ok solids) tets e in
     subst (AllByRecursion IsSolid) (ok_is (passed (no_pair Repeated (alone read.0)) (Ok read.0) tets read.2))
     (all_read (numbered_solid raw.nodes shift) IsSolid (numbered_at raw.nodes shift) (numbered 1 raw.tets) read.0 read.1)
+
+none_repeated : (pair : Option (ℕ × ℕ)) → no_pair Repeated pair ≡ Ok tt → pair ≡ None
+none_repeated None e = refl
+none_repeated (Some pair) e = absurd cc
+
+solids_listed : (raw : Raw) (shift : ℕ) (tets : List Tetrahedron) → solids_of raw shift ≡ Ok tets → are_listed_once tets ≡ true
+unfolding solids_of
+solids_listed raw shift tets e =
+    let alone : List Tetrahedron → Option (ℕ × ℕ) = λ solids. first_pair (slice_cmp place_cmp) (numbered 1 (corner_sets solids)) in
+    let read = then_ok (each (numbered_solid raw.nodes shift) (numbered 1 raw.tets)) (λ solids. no_pair Repeated (alone solids) >> Ok solids) tets e in
+    subst (λ solids. are_listed_once solids ≡ true) (ok_is (passed (no_pair Repeated (alone read.0)) (Ok read.0) tets read.2))
+    (distinct-no_pair (slice_cmp place_cmp) 1 (corner_sets read.0) (none_repeated (alone read.0) (first_passed (no_pair Repeated (alone read.0)) (Ok read.0) tets read.2)))
 
 tets_solid : (raw : Raw) (shift : ℕ) (tets : List Tetrahedron) → tets_of raw shift ≡ Ok tets → AllByRecursion IsSolid tets
 unfolding tets_of
 tets_solid raw shift tets e =
     solids_solid raw shift tets (passed (placed raw shift) (solids_of raw shift) tets (passed (counted raw.tets) (placed raw shift >> solids_of raw shift) tets e))
 
--- ---- sets
--- what holds of each item of a set holds of each item of its list
-module _ {K : Type 0} (R : K → K → Ordering) (exact : IsAntisymmetric R) (P : K → Type 0) where
-  from_put : (x : K) (ys : List K) → AllByRecursion P (put R x ys) → P x × AllByRecursion P ys
-  from_put x [] h = (h.0, tt)
-  from_put x (y ∷ ys) h =
-      elim (R x y) as (λ r. R x y ≡ r → AllByRecursion P (cond (is_lt r) (x ∷ y ∷ ys) (cond (is_eq r) (y ∷ ys) (y ∷ put R x ys))) → P x × AllByRecursion P (y ∷ ys)) [
-        | Less ↦ λ _ h. (h.0, h.1)
-        | Equal ↦ λ tie h. (subst P (sym (exact x y tie)) h.0, h)
-        | Greater ↦ λ _ h. let rest = from_put x ys h.1 in (rest.0, (h.0, rest.1))
-      ] refl h
-
-  pub from_set : (xs : List K) → AllByRecursion P (ascending_of R xs) → AllByRecursion P xs
-  from_set [] h = tt
-  from_set (x ∷ xs) h =
-      let parts = from_put x (ascending_of R xs) h in
-      (parts.0, from_set xs parts.1)
+tets_listed : (raw : Raw) (shift : ℕ) (tets : List Tetrahedron) → tets_of raw shift ≡ Ok tets → are_listed_once tets ≡ true
+unfolding tets_of
+tets_listed raw shift tets e =
+    solids_listed raw shift tets (passed (placed raw shift) (solids_of raw shift) tets (passed (counted raw.tets) (placed raw shift >> solids_of raw shift) tets e))
 
 -- ---- marks
-either : (a b : Bool) → (a || b) ≡ true → (a ≡ true) ⊎ (b ≡ true)
-either true b h = inl refl
-either false b h = inr h
-
 kept_passes : (test : Cell → Bool) (nodes : List Coordinates) (shift : ℕ) (raw : RawMark) (mark : CellMark) → kept_mark test nodes shift raw ≡ Some mark → test mark.cell ≡ true
 kept_passes test nodes shift raw mark =
     elim (moved_mark nodes shift raw) as (λ o. option_and_then (λ moved. cond (test moved.cell) (Some moved) None) o ≡ Some mark → test mark.cell ≡ true) [
@@ -137,7 +135,7 @@ module _ (P : Coordinates → Type 0) where
   of_corner : (p : Coordinates) (corners : List Coordinates) → has place_cmp p corners ≡ true → AllByRecursion P corners → P p
   of_corner p [] there h = absurd (false≢true there)
   of_corner p (corner ∷ corners) there h =
-      elim (either (eq_by_cmp place_cmp p corner) (has place_cmp p corners) there) [
+      elim (or_cases (eq_by_cmp place_cmp p corner) (has place_cmp p corners) there) [
         | inl tie ↦ subst P (sym (place_cmp-IsAntisymmetric p corner ((Equal-is (place_cmp p corner)).0 tie))) h.0
         | inr later ↦ of_corner p corners later h.1
       ]
@@ -145,13 +143,13 @@ module _ (P : Coordinates → Type 0) where
   of_held : (corners places : List Coordinates) → holds_all corners places ≡ true → AllByRecursion P corners → AllByRecursion P places
   of_held corners [] held h = tt
   of_held corners (p ∷ places) held h =
-      let both = both_pass (has place_cmp p corners) (holds_all corners places) held in
+      let both = and_parts (has place_cmp p corners) (holds_all corners places) held in
       (of_corner p corners both.0 h, of_held corners places both.1 h)
 
   of_cell : (tets : List Tetrahedron) (cell : Cell) → is_on tets cell ≡ true → AllByRecursion HoldsOfTet tets → AllByRecursion P (corners_of cell)
   of_cell [] cell on h = absurd (false≢true on)
   of_cell (tet ∷ tets) cell on h =
-      elim (either (holds_all tet.corners (corners_of cell)) (is_on tets cell) on) [
+      elim (or_cases (holds_all tet.corners (corners_of cell)) (is_on tets cell) on) [
         | inl held ↦ of_held tet.corners (corners_of cell) held h.0
         | inr later ↦ of_cell tets cell later h.1
       ]
@@ -190,24 +188,22 @@ module _ (P : Coordinates → Type 0) where
       (of_outer tets h))
 
 -- ---- a mesh that is accepted
--- a test that a step came after was passed
-first_passed : {A E : Type 0} (test : Result (Unit {0}) E) (x : Result A E) (y : A) → (test >> x) ≡ Ok y → test ≡ Ok tt
-first_passed (Ok t) x y e = refl
-first_passed (Err fault) x y e = absurd cc
-
 pub record IsFair (mesh : MarkedMesh) : Type 1 where
   pub solid : AllByRecursion IsSolid mesh.tets
-  pub once : (p : Rational) → whole_cover p mesh.tets ≤ 1
+  pub listed : are_listed_once mesh.tets ≡ true
+  pub sound : IsSound mesh.tets mesh.marks
   pub marks : (P : Coordinates → Type 0) → AllByRecursion (HoldsOfTet P) mesh.tets → AllByRecursion (HoldsOfMark P) mesh.marks
 
 found_is_fair : (raw : Raw) (shift : ℕ) (mesh : MarkedMesh) → found_of raw shift ≡ Ok mesh → IsFair mesh
 unfolding found_of
 found_is_fair raw shift mesh e =
     let marked : List Tetrahedron → MarkedMesh = λ tets. record { tets = tets; marks = found_marks raw shift tets; loose = found_loose raw shift tets } in
-    let read = bound (tets_of raw shift) (λ tets. apart tets >> Ok (marked tets)) mesh e in
+    let read = then_ok (tets_of raw shift) (λ tets. apart tets >> Ok (marked tets)) mesh e in
+    let solid = tets_solid raw shift read.0 read.1 in
     subst IsFair (ok_is (passed (apart read.0) (Ok (marked read.0)) mesh read.2)) (record {
-      solid = tets_solid raw shift read.0 read.1;
-      once = λ p. no_overlap_covers_once p read.0 (none_overlaps (first_overlap_of read.0) (first_passed (apart read.0) (Ok (marked read.0)) mesh read.2));
+      solid = solid;
+      listed = tets_listed raw shift read.0 read.1;
+      sound = mesh_is_sound raw shift read.0 (test_all (λ tet. are_corners tet.corners) read.0 solid) (none_overlaps (first_overlap_of read.0) (first_passed (apart read.0) (Ok (marked read.0)) mesh read.2));
       marks = λ P h. of_marks P raw shift read.0 h;
     })
 

@@ -3,6 +3,7 @@ use Rattle.std.proofs.Common.{◌≡◌, List, [], ◌∷◌, refl, subst}
 use Rattle.std.specs.Prelude.{Option, Some, None, Result, Ok, Err}
 use Rattle.std.specs.List.{AllByRecursion, filter_map}
 use Rattle.msh_read.specs.Steps.{◌>>=◌, ◌>>◌, each}
+use Rattle.mesh_check.proofs.Numbered.{then_ok}
 
 pub some_is : {A : Type 0} {x y : A} → Some x ≡ Some y → x ≡ y
 some_is e = cc
@@ -11,9 +12,6 @@ pub ok_is : {A E : Type 0} {x y : A} → ◌≡◌ {A = Result A E} (Ok x) (Ok y
 ok_is e = cc
 
 -- what a step that went well gave to the next
-pub bound : {A B E : Type 0} (first : Result A E) (next : A → Result B E) (y : B) → (first >>= next) ≡ Ok y → (x : A) × (first ≡ Ok x) × (next x ≡ Ok y)
-bound (Ok x) next y e = (x, refl, e)
-bound (Err fault) next y e = absurd cc
 
 pub passed : {B E : Type 0} (first : Result (Unit {0}) E) (next : Result B E) (y : B) → (first >> next) ≡ Ok y → next ≡ Ok y
 passed (Ok x) next y e = e
@@ -22,8 +20,8 @@ passed (Err fault) next y e = absurd cc
 pub all_read : {A B E : Type 0} (read : A → Result B E) (P : B → Type 0) → ((x : A) (y : B) → read x ≡ Ok y → P y) → (xs : List A) (ys : List B) → each read xs ≡ Ok ys → AllByRecursion P ys
 all_read read P one [] ys e = subst (AllByRecursion P) (ok_is e) tt
 all_read read P one (x ∷ xs) ys e =
-    let first = bound (read x) (λ y. each read xs >>= λ others. Ok (y ∷ others)) ys e in
-    let others = bound (each read xs) (λ others. Ok (first.0 ∷ others)) ys first.2 in
+    let first = then_ok (read x) (λ y. each read xs >>= λ others. Ok (y ∷ others)) ys e in
+    let others = then_ok (each read xs) (λ others. Ok (first.0 ∷ others)) ys first.2 in
     subst (AllByRecursion P) (ok_is others.2) (one x first.0 first.1, all_read read P one xs others.0 others.1)
 
 -- where what an item of which P holds gives is such that Q holds, Q holds of all that is given
@@ -35,7 +33,3 @@ module _ {X Y : Type 0} (P : X → Type 0) (Q : Y → Type 0) (give : X → Opti
         | None ↦ λ is. rw is (all_given xs h.1)
         | Some y ↦ λ is. rw is (one x y h.0 is, all_given xs h.1)
       ] refl
-
-pub all_anyway : {X : Type 0} (xs : List X) → AllByRecursion (λ _. Unit {0}) xs
-all_anyway [] = tt
-all_anyway (x ∷ xs) = (tt, all_anyway xs)

@@ -29,7 +29,7 @@ use Rattle.meshadapt.specs.Words.{Job, field_of}
 
 -- what was fetched
 abbrev pub seen : Fetched → Accepted
-seen fetched = record { mesh = fetched.mesh.mesh; loose = fetched.loose; names = fetched.names.items }
+seen fetched = record { mesh = fetched.mesh.mesh; grid = fetched.grid; loose = fetched.loose; names = fetched.names.items }
 
 -- what the bytes of a file may be refused for
 abbrev pub IsOfBytes : Refusal → Type 0

@@ -10,16 +10,17 @@ use Rattle.msh_read.specs.GroupNames.{GroupName}
 use Rattle.msh_read.specs.Raw.{Raw}
 use Rattle.msh_read.specs.Reading.{read_of}
 use Rattle.msh_read.specs.declared.fault.MshFault.{MshFault}
-use Rattle.one_mesh.specs.Grid.{grid_of}
+use Rattle.ma_cells.specs.Grid.{grid_of}
 use Rattle.one_mesh.specs.Holding.{set_of}
 use Rattle.meshadapt.specs.declared.status.FileKind.TheVariants.{MeshFile}
 use Rattle.meshadapt.specs.declared.status.Refusal.{Refusal}
 use Rattle.meshadapt.specs.declared.status.Refusal.TheVariants.{Missing, TooLong, Mesh, Accept, Rounds}
 use Rattle.meshadapt.specs.Words.{Job}
 
--- a mesh that is accepted, how many of its file's marks were loose, and the names of its file
+-- a mesh that is accepted, its grid exponent, how many of its file's marks were loose, and the names of its file
 pub record Accepted : Type 0 where
   pub mesh : Batch
+  pub grid : ℕ
   pub loose : ℕ
   pub names : List GroupName
 
@@ -29,7 +30,7 @@ longest = 67108864
 
 -- the mesh, as sets, with these names
 abbrev pub named : List GroupName → MarkedMesh → Accepted
-named names mesh = record { mesh = set_of mesh; loose = mesh.loose; names = names }
+named names mesh = record { mesh = set_of mesh; grid = grid_of mesh.tets; loose = mesh.loose; names = names }
 
 abbrev pub named_mesh : List GroupName → Result MarkedMesh MeshFault → Result Accepted Refusal
 named_mesh names (Ok mesh) = Ok (named names mesh)
@@ -51,8 +52,7 @@ verdict_on (Some bytes) = if nat_le (length bytes) longest then mesh_of bytes el
 -- A round halves the grid, so that there are at most as many rounds as its exponent.
 abbrev pub within_grid : ℕ → Accepted → Result Accepted Refusal
 within_grid rounds accepted =
-    let grid = grid_of accepted.mesh.tets in
-    if nat_le rounds grid then Ok accepted else Err (Rounds rounds grid)
+    if nat_le rounds accepted.grid then Ok accepted else Err (Rounds rounds accepted.grid)
 
 -- the same of a mesh that may be refused already
 abbrev pub for_rounds : ℕ → Result Accepted Refusal → Result Accepted Refusal

@@ -4,12 +4,11 @@ ghost use Rattle.msh_read.specs.Raw.{raw};
 ghost use Rattle.meshadapt.specs.Steps.{Fetches, Reads, seen};
 ghost use Rattle.meshadapt.specs.Verdict.{for_rounds, mesh_of, mesh_of_raw, named, within_grid};
 
-use crate::measures::grid;
 use crate::status::{FileKind, Refusal};
 use ma_cells::Mesh;
 use ma_geom::Memory;
 use ma_io::{Depot, FetchFault};
-use mesh_check::{MeshFault, accept};
+use mesh_check::{MeshFault, accept, grid};
 use msh_read::{MshFault, Name, RawMesh, read_msh};
 use one_mesh::OneMesh;
 use std::alloc::Global;
@@ -17,10 +16,12 @@ use std::alloc::Global;
 /// How many bytes a file may have.
 const LONGEST: usize = 67_108_864;
 
-/// A mesh that is accepted, how many of its file's marks were loose, and the names of its file.
+/// A mesh that is accepted, its grid exponent, how many of its file's marks were loose, and the
+/// names of its file.
 #[derive(Debug, Drop)]
 pub struct Fetched {
     pub mesh: OneMesh,
+    pub grid: u32,
     pub loose: u64,
     pub names: Vec<Name>,
 }
@@ -40,6 +41,7 @@ fn named(alloc: Global, mesh: &Mesh, names: Vec<Name>) -> Result<Fetched, Unread
     match OneMesh::from_mesh(alloc, mesh) {
         Ok(held) => Ok(Fetched {
             mesh: held,
+            grid: grid(mesh),
             loose: mesh.loose(),
             names,
         }),
@@ -78,7 +80,7 @@ fn within_grid(fetched: Fetched, rounds: u32) -> Result<Fetched, Unread>
     requires { fetched.mesh.spent ≡ false }
     ensures { Reads result (within_grid rounds (seen fetched)) }
 {
-    let grid = grid(fetched.mesh.batch().tets.as_slice());
+    let grid = fetched.grid;
     if rounds <= grid {
         Ok(fetched)
     } else {

@@ -114,9 +114,10 @@ pub fn meshadapt<D: Depot, S: Sink>(
         (record { files = D.files depot.old; fetch_faults = D.fetch_faults depot.old; store_faults = D.store_faults depot.old; denied = D.denied depot.old; written = S.written out.old; faults = S.faults out.old })
         (record { files = D.files depot.new; fetch_faults = D.fetch_faults depot.new; store_faults = D.store_faults depot.new; denied = D.denied depot.new; written = S.written out.new; faults = S.faults out.new }) }
 
-    // What the rounds keep of the mesh of an accepted job.
-    ensures geometry { GeometryIsKept (job_of (map string_bytes words.now))
-        (record { files = D.files depot.old; fetch_faults = D.fetch_faults depot.old; store_faults = D.store_faults depot.old; denied = D.denied depot.old; written = S.written out.old; faults = S.faults out.old }) }
+    // What the stored mesh keeps of the geometry of the accepted one.
+    ensures geometry { GeometryIsKept result (job_of (map string_bytes words.now))
+        (record { files = D.files depot.old; fetch_faults = D.fetch_faults depot.old; store_faults = D.store_faults depot.old; denied = D.denied depot.old; written = S.written out.old; faults = S.faults out.old })
+        (record { files = D.files depot.new; fetch_faults = D.fetch_faults depot.new; store_faults = D.store_faults depot.new; denied = D.denied depot.new; written = S.written out.new; faults = S.faults out.new }) }
 {
     match run(alloc, words, depot, out) {
         Status::Memory => {

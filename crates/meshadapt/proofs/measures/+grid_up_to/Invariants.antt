@@ -1,4 +1,0 @@
-use Rattle.meshadapt.proofs.measures.+grid_up_to.Given as goal
-
-abbrev pub decreases-grid_up_to : goal.decreases-grid_up_to
-decreases-grid_up_to l = l.exponent
