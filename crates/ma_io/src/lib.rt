@@ -9,6 +9,7 @@ mod faults;
 mod mem_depot;
 mod mem_sink;
 mod pieces;
+mod replacing;
 mod std_sink;
 #[cfg(test)]
 mod tests;

@@ -32,7 +32,8 @@ pub struct MemDepot {
 
 impl Model for MemDepot {
     ghost use Rattle.ma_io.specs.Files.{files_of};
-    ghost use Rattle.ma_io.specs.MemDepot.{DepotState, depot_code};
+    ghost use Rattle.ma_io.specs.MemDepot.{DepotState};
+    ghost use Rattle.ma_io.specs.steps.Codes.{depot_code};
 
     ghost Value = { DepotState };
 

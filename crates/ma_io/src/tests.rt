@@ -4,9 +4,12 @@ ghost use Rattle.ma_io.specs.Files.{Files};
 
 use super::*;
 use std::alloc::Global;
-use std::process::Abort;
 use std::test::Fail;
-use std::{env, fs, process};
+use std::{env, fs, io, process};
+
+mod full_disk;
+
+use full_disk::FullDisk;
 
 /// Copies a file from one name to another, and says so. Its proof sees a depot and a sink only through
 /// their traits.
@@ -20,25 +23,12 @@ fn copy<D: Depot, S: Sink>(alloc: Global, depot: &mut D, out: &mut S, from: &str
         && out.put(b"copied").is_ok()
 }
 
-/// A depot of one file `a` with the bytes `12`.
-fn depot_of_one(
-    rt: &impl Abort,
-    alloc: Global,
-    fail_fetches: &[u64],
-    fail_stores: &[u64],
-) -> Result<MemDepot, Fail> {
+/// A file `a` with the bytes `12`.
+fn one_file(alloc: Global) -> Result<Vec<(String, Vec<u8>)>, Fail> {
     let mut files = Vec::new(alloc);
-    files.push((
-        String::from_str(alloc, "a")?,
-        Vec::from_slice(alloc, b"12")?,
-    ))?;
-    assert!(rt; names_differ(files.as_slice()));
-    Ok(MemDepot::new(
-        alloc,
-        files,
-        Vec::from_slice(alloc, fail_fetches)?,
-        Vec::from_slice(alloc, fail_stores)?,
-    ))
+    let name = String::from_str(alloc, "a")?;
+    files.push((name, Vec::from_slice(alloc, b"12")?))?;
+    Ok(files)
 }
 
 fn holds(depot: &MemDepot, name: &str, bytes: &[u8]) -> bool {
@@ -49,116 +39,90 @@ fn holds(depot: &MemDepot, name: &str, bytes: &[u8]) -> bool {
 }
 
 #[test]
-fn a_fetch_takes_up_to_its_limit(rt: HostRuntime) -> Result<(), Fail> {
-    let mut depot = depot_of_one(&rt, rt.alloc(), &[], &[])?;
-    let mut into = Vec::from_slice(rt.alloc(), b"before")?;
-    assert_eq!(rt; depot.fetch("a", &mut into, 1), Err(FetchFault::TooLong));
-    assert_eq!(rt; depot.fetch("b", &mut into, 9), Err(FetchFault::Absent));
-    assert_eq!(rt; into.as_slice(), b"before".as_slice());
-    assert_eq!(rt; depot.fetch("a", &mut into, 2), Ok(()));
-    assert_eq!(rt; into.as_slice(), b"12".as_slice());
-    Ok(())
-}
-
-#[test]
-fn a_store_replaces_one_file(rt: HostRuntime) -> Result<(), Fail> {
-    let mut depot = depot_of_one(&rt, rt.alloc(), &[], &[])?;
-    assert_eq!(rt; depot.store("b", b"345"), Ok(()));
-    assert_eq!(rt; depot.store("a", b"6"), Ok(()));
-    assert!(rt; holds(&depot, "a", b"6"));
-    assert!(rt; holds(&depot, "b", b"345"));
-    assert!(rt; depot.bytes_of("c").is_none());
-    Ok(())
-}
-
-#[test]
-fn calls_in_the_lists_fail(rt: HostRuntime) -> Result<(), Fail> {
-    let mut depot = depot_of_one(&rt, rt.alloc(), &[2], &[1])?;
-    let mut into = Vec::new(rt.alloc());
-    assert_eq!(rt; depot.fetch("b", &mut into, 9), Err(FetchFault::Absent));
-    assert_eq!(rt; depot.fetch("b", &mut into, 9), Err(FetchFault::Failed));
-    assert_eq!(rt; depot.fetch("a", &mut into, 9), Ok(()));
-    assert_eq!(rt; depot.store("a", b"6"), Err(StoreFault::Failed));
-    assert!(rt; holds(&depot, "a", b"12"));
-    assert_eq!(rt; depot.store("a", b"6"), Ok(()));
-    assert!(rt; holds(&depot, "a", b"6"));
-    Ok(())
-}
-
-#[test]
-fn a_put_in_the_list_puts_nothing(rt: HostRuntime) -> Result<(), Fail> {
-    let mut sink = MemSink::new(rt.alloc(), Vec::from_slice(rt.alloc(), &[2])?);
-    assert_eq!(rt; sink.put(b"one"), Ok(()));
-    assert_eq!(rt; sink.put(b"two"), Err(SinkFault::Failed));
-    assert_eq!(rt; sink.put(b"three"), Ok(()));
-    assert_eq!(rt; sink.bytes(), b"onethree".as_slice());
-    Ok(())
-}
-
-#[test]
-fn names_that_differ_are_told_from_names_that_repeat(rt: HostRuntime) -> Result<(), Fail> {
-    let alloc = rt.alloc();
-    let mut files = Vec::new(alloc);
-    files.push((String::from_str(alloc, "a")?, Vec::new(alloc)))?;
-    files.push((String::from_str(alloc, "ab")?, Vec::new(alloc)))?;
-    assert!(rt; names_differ(files.as_slice()));
-    files.push((String::from_str(alloc, "a")?, Vec::new(alloc)))?;
-    assert!(rt; !names_differ(files.as_slice()));
-    Ok(())
-}
-
-#[test]
 fn a_copy_goes_through_the_traits(rt: HostRuntime) -> Result<(), Fail> {
-    let mut depot = depot_of_one(&rt, rt.alloc(), &[], &[])?;
-    let mut sink = MemSink::new(rt.alloc(), Vec::new(rt.alloc()));
-    assert!(rt; copy(rt.alloc(), &mut depot, &mut sink, "a", "b"));
-    assert!(rt; !copy(rt.alloc(), &mut depot, &mut sink, "c", "a"));
-    assert!(rt; holds(&depot, "b", b"12"));
-    assert_eq!(rt; sink.bytes(), b"copied".as_slice());
-    Ok(())
-}
-
-#[test]
-fn a_file_on_the_disk_is_stored_and_fetched(rt: HostRuntime) -> Result<(), Fail> {
     let alloc = rt.alloc();
-    let folder = env::temp_dir(&rt)?;
-    let folder = folder.as_str();
+    let files = one_file(alloc)?;
+    assert!(rt; names_differ(files.as_slice()));
+    let seconds = Vec::from_slice(alloc, &[2])?;
+    let mut depot = MemDepot::new(alloc, files, Vec::new(alloc), seconds);
+    let mut sink = MemSink::new(alloc, Vec::new(alloc));
+    assert!(rt; copy(alloc, &mut depot, &mut sink, "a", "b"));
+    // The second store fails.
+    assert!(rt; !copy(alloc, &mut depot, &mut sink, "a", "c"));
+    assert!(rt; copy(alloc, &mut depot, &mut sink, "b", "d"));
+    assert!(rt; holds(&depot, "d", b"12") && depot.bytes_of("c").is_none());
+    assert!(rt; sink.bytes() == b"copiedcopied".as_slice());
+    Ok(())
+}
+
+/// The names of a file in a folder that this test alone uses, and of what would be beside the file.
+#[derive(Drop)]
+struct OnDisk {
+    folder: String,
+    file: String,
+    beside: String,
+}
+
+/// Makes the folder.
+fn on_disk(rt: &HostRuntime) -> io::Result<OnDisk> {
+    let all = env::temp_dir(rt)?;
     let own = process::id(rt.process());
-    let name = format!(in alloc; "{folder}/ma_io_test_{own}")?;
+    let folder = format!(in rt.alloc(); "{}/ma_io_test_{own}", all.as_str())?;
+    fs::create_dir(rt, folder.as_str())?;
+    Ok(OnDisk {
+        file: format!(in rt.alloc(); "{}/a", folder.as_str())?,
+        beside: format!(in rt.alloc(); "{}/a.part", folder.as_str())?,
+        folder,
+    })
+}
+
+/// Whether a fetch gives these bytes, and nothing is beside the file.
+fn has_alone<D: Depot>(rt: &HostRuntime, depot: &mut D, names: &OnDisk, bytes: &[u8]) -> bool {
+    let mut into = Vec::new(rt.alloc());
+    depot
+        .fetch(names.file.as_str(), &mut into, bytes.len())
+        .is_ok()
+        && into.as_slice() == bytes
+        && !fs::exists(rt, names.beside.as_str()).unwrap_or(true)
+}
+
+#[test]
+fn a_file_on_the_disk_is_replaced_and_fetched(rt: HostRuntime) -> Result<(), Fail> {
+    let names = on_disk(&rt)?;
     // Longer than a piece that is read at once.
-    let text = vec![in alloc; 7u8; 100_000]?;
+    let long = vec![in rt.alloc(); 7u8; 100_000]?;
     let mut depot = DiskDepot::new(&rt);
-    let mut into = Vec::from_slice(alloc, b"before")?;
-    assert_eq!(rt;
-        depot.fetch(name.as_str(), &mut into, 100_000),
-        Err(FetchFault::Absent)
-    );
-    assert_eq!(rt; depot.store(name.as_str(), text.as_slice()), Ok(()));
-    let short = depot.fetch(name.as_str(), &mut into, 99_999);
-    assert_eq!(rt; short, Err(FetchFault::TooLong));
-    assert_eq!(rt; into.as_slice(), b"before".as_slice());
-    let fetched = depot.fetch(name.as_str(), &mut into, 100_000);
-    fs::remove_file(&rt, name.as_str())?;
-    assert_eq!(rt; fetched, Ok(()));
-    assert_eq!(rt; into.as_slice(), text.as_slice());
-    assert_eq!(rt; depot.fetch(folder, &mut into, 9), Err(FetchFault::Failed));
-    assert_eq!(rt; depot.store(folder, b"x"), Err(StoreFault::Failed));
+    assert!(rt; depot.store(names.file.as_str(), long.as_slice()).is_ok());
+    assert!(rt; has_alone(&rt, &mut depot, &names, long.as_slice()));
+    // What a run that was killed would leave.
+    assert!(rt; fs::write(&rt, names.beside.as_str(), b"fro".as_slice()).is_ok());
+    assert!(rt; depot.store(names.file.as_str(), b"new").is_ok());
+    assert!(rt; has_alone(&rt, &mut depot, &names, b"new"));
+    fs::remove_dir_all(&rt, names.folder.as_str())?;
     Ok(())
 }
 
 #[test]
-fn standard_output_takes_bytes(rt: HostRuntime) {
-    let mut sink = StdSink::new(&rt);
-    assert_eq!(rt; sink.put(b"one line\n"), Ok(()));
-    assert_eq!(rt; sink.put(b""), Ok(()));
+fn a_store_that_fails_leaves_the_old_file(rt: HostRuntime) -> Result<(), Fail> {
+    let names = on_disk(&rt)?;
     let mut depot = DiskDepot::new(&rt);
-    assert!(rt;
-        !copy(
-            rt.alloc(),
-            &mut depot,
-            &mut sink,
-            "no_such_file",
-            "nor_this"
-        )
-    );
+    let mut full = DiskDepot::new((FullDisk(&rt), rt.alloc()));
+    assert!(rt; depot.store(names.file.as_str(), b"old").is_ok());
+    assert!(rt; full.store(names.file.as_str(), b"new") == Err(StoreFault::Failed));
+    assert!(rt; depot.store(names.folder.as_str(), b"new") == Err(StoreFault::Failed));
+    assert!(rt; has_alone(&rt, &mut depot, &names, b"old"));
+    fs::remove_dir_all(&rt, names.folder.as_str())?;
+    Ok(())
+}
+
+#[test]
+fn a_file_with_a_folder_beside_it_is_written_itself(rt: HostRuntime) -> Result<(), Fail> {
+    let names = on_disk(&rt)?;
+    let mut depot = DiskDepot::new(&rt);
+    assert!(rt; fs::create_dir(&rt, names.beside.as_str()).is_ok());
+    assert!(rt; depot.store(names.file.as_str(), b"new").is_ok());
+    assert!(rt; fs::remove_dir(&rt, names.beside.as_str()).is_ok());
+    assert!(rt; has_alone(&rt, &mut depot, &names, b"new"));
+    fs::remove_dir_all(&rt, names.folder.as_str())?;
+    Ok(())
 }
