@@ -1,13 +1,13 @@
 //! The depot of real files.
-ghost use Rattle.std.specs.Prelude.{◌≡◌, None, OnErr};
+ghost use Rattle.std.specs.Prelude.{◌≡◌, ◌≤◌, None, length, IfOk, OnOk, OnErr};
 ghost use Rattle.ma_io.specs.Count.{Counts};
 ghost use Rattle.ma_io.specs.Disk.{no_faults, counts_after_fetch, counts_after_store};
 ghost use Rattle.ma_io.specs.Fetch.{is_failed_fetch, is_denied_fetch};
 ghost use Rattle.ma_io.specs.Store.{is_failed_store};
 
 use crate::faults::{FetchFault, StoreFault};
-use crate::pieces::read_whole;
 use crate::replacing::store_file;
+use crate::streams::read_whole;
 use crate::traits::Depot;
 use std::alloc::Global;
 use std::fs;
@@ -57,6 +57,7 @@ impl<R: Files + AllocGlobal> Depot for DiskDepot<R> {
     ghost held = { λ d. record { files = None; fetch_faults = d.fetch_faults; store_faults = d.store_faults; denied = d.denied } };
 
     fn fetch(&mut self, name: &str, into: &mut Vec<u8>, most: usize) -> Result<(), FetchFault>
+        ensures length { OnOk result (length into.new.items ≤ most) }
         ensures err { OnErr result (into.new.items ≡ into.old.items) }
         ensures after { self.new ≡ counts_after_fetch self.old result }
         ensures fetch_faults { Counts (is_failed_fetch result) self.old.fetch_faults self.new.fetch_faults }
@@ -104,7 +105,9 @@ fn read_file<R: Files>(
     alloc: Global,
     name: &str,
     most: usize,
-) -> Result<Vec<u8>, FetchFault> {
+) -> Result<Vec<u8>, FetchFault>
+    ensures { IfOk result (λ bytes. length bytes.items ≤ most) }
+{
     let mut file = match fs::open(rt, name) {
         Ok(file) => file,
         Err(error) if error.kind() == ErrorKind::NotFound => return Err(FetchFault::Absent),

@@ -1,5 +1,5 @@
 //! A depot in memory.
-ghost use Rattle.std.specs.Prelude.{◌≡◌, ◌↔◌, IsTrue, Some, position, string_bytes, OnOk, OnErr, option_copied};
+ghost use Rattle.std.specs.Prelude.{◌≡◌, ◌≤◌, ◌↔◌, IsTrue, length, Some, position, string_bytes, OnOk, OnErr, option_copied};
 ghost use Rattle.std.specs.Str.{bytes_eq};
 ghost use Rattle.std.specs.FinMap as map;
 ghost use Rattle.ma_io.specs.Count.{Counts};
@@ -91,6 +91,7 @@ impl Depot for MemDepot {
 
     fn fetch(&mut self, name: &str, into: &mut Vec<u8>, most: usize) -> Result<(), FetchFault>
         ensures answer { FetchAnswers (fetch_due self.old name.now most) into.new.items result }
+        ensures length { OnOk result (length into.new.items ≤ most) }
         ensures err { OnErr result (into.new.items ≡ into.old.items) }
         ensures after { self.new ≡ after_fetch self.old result }
         ensures fetch_faults { Counts (is_failed_fetch result) self.old.fetch_faults self.new.fetch_faults }

@@ -1,6 +1,6 @@
 //! Files of the system that are replaced as a whole, where the system allows that.
 use crate::faults::StoreFault;
-use crate::pieces::write_whole;
+use crate::streams::write_whole;
 use std::alloc::Global;
 use std::fs;
 use std::fs::{File, Files, OpenFile, OpenOptions};

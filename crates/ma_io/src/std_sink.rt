@@ -4,7 +4,7 @@ ghost use Rattle.ma_io.specs.Count.{Counts};
 ghost use Rattle.ma_io.specs.Put.{is_failed_put, faults_after_put};
 
 use crate::faults::SinkFault;
-use crate::pieces::write_whole;
+use crate::streams::write_whole;
 use crate::traits::Sink;
 use std::io;
 use std::marker::Model;

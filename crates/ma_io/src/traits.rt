@@ -1,5 +1,5 @@
 //! A depot of files, and a sink of bytes.
-ghost use Rattle.std.specs.Prelude.{◌≡◌, IfSome, OnErr};
+ghost use Rattle.std.specs.Prelude.{◌≡◌, ◌≤◌, length, IfSome, OnOk, OnErr};
 ghost use Rattle.std.specs.FinMap as map;
 ghost use Rattle.ma_io.specs.Count.{Counts};
 ghost use Rattle.ma_io.specs.Held.{Held};
@@ -22,7 +22,7 @@ pub trait Depot {
     ghost held: { Self → Held };
 
     /// Fetches the file of this name, of at most `most` bytes. After `Ok`, `into` holds the file's bytes
-    /// and no others; after a fault it holds what it held.
+    /// and no others, at most `most` of them even where nothing is told; after a fault it holds what it held.
     ///
     /// A fetch leaves the files as they are. `Failed` raises `fetch_faults`, `Absent` and `TooLong` raise
     /// `denied`, and no other count moves. Where the files are told, `Ok` comes only where the name is
@@ -34,6 +34,7 @@ pub trait Depot {
         ensures store_faults { (held self.new).store_faults ≡ (held self.old).store_faults }
         ensures files { (held self.new).files ≡ (held self.old).files }
         ensures told { IfSome (held self.old).files (λ old. FetchTells (map.get old name.now) most into.new.items result) }
+        ensures length { OnOk result (length into.new.items ≤ most) }
         ensures err { OnErr result (into.new.items ≡ into.old.items) };
 
     /// Stores the bytes under the name, in place of what was there.
