@@ -3,7 +3,7 @@ ghost use Rattle.std.specs.FinMap as map;
 ghost use Rattle.ma_io.specs.Files.{Files};
 
 use super::*;
-use std::alloc::Global;
+use std::alloc::{AllocError, Global};
 use std::test::Fail;
 use std::{env, fs, io, process};
 
@@ -55,74 +55,70 @@ fn a_copy_goes_through_the_traits(rt: HostRuntime) -> Result<(), Fail> {
     Ok(())
 }
 
-/// The names of a file in a folder that this test alone uses, and of what would be beside the file.
-#[derive(Drop)]
-struct OnDisk {
-    folder: String,
-    file: String,
-    beside: String,
-}
-
-/// Makes the folder.
-fn on_disk(rt: &HostRuntime) -> io::Result<OnDisk> {
-    let all = env::temp_dir(rt)?;
+/// A name that this test alone uses.
+fn own_name(rt: &HostRuntime) -> io::Result<String> {
+    let folder = env::temp_dir(rt)?;
     let own = process::id(rt.process());
-    let folder = format!(in rt.alloc(); "{}/ma_io_test_{own}", all.as_str())?;
-    fs::create_dir(rt, folder.as_str())?;
-    Ok(OnDisk {
-        file: format!(in rt.alloc(); "{}/a", folder.as_str())?,
-        beside: format!(in rt.alloc(); "{}/a.part", folder.as_str())?,
-        folder,
-    })
+    Ok(format!(in rt.alloc(); "{}/ma_io_test_{own}", folder.as_str())?)
 }
 
-/// Whether a fetch gives these bytes, and nothing is beside the file.
-fn has_alone<D: Depot>(rt: &HostRuntime, depot: &mut D, names: &OnDisk, bytes: &[u8]) -> bool {
-    let mut into = Vec::new(rt.alloc());
-    depot
-        .fetch(names.file.as_str(), &mut into, bytes.len())
-        .is_ok()
-        && into.as_slice() == bytes
-        && !fs::exists(rt, names.beside.as_str()).unwrap_or(true)
+/// The name of what would be beside the file.
+fn name_beside(rt: &HostRuntime, name: &str) -> Result<String, AllocError> {
+    format!(in rt.alloc(); "{name}.part")
+}
+
+/// Whether a fetch gives these bytes.
+fn gives<D: Depot>(alloc: Global, depot: &mut D, name: &str, bytes: &[u8]) -> bool {
+    let mut into = Vec::new(alloc);
+    depot.fetch(name, &mut into, bytes.len()).is_ok() && into.as_slice() == bytes
 }
 
 #[test]
 fn a_file_on_the_disk_is_replaced_and_fetched(rt: HostRuntime) -> Result<(), Fail> {
-    let names = on_disk(&rt)?;
-    // Longer than a piece that is read at once.
+    let name = own_name(&rt)?;
+    let name = name.as_str();
+    let beside = name_beside(&rt, name)?;
+    // Longer than a block that is read at once.
     let long = vec![in rt.alloc(); 7u8; 100_000]?;
     let mut depot = DiskDepot::new(&rt);
-    assert!(rt; depot.store(names.file.as_str(), long.as_slice()).is_ok());
-    assert!(rt; has_alone(&rt, &mut depot, &names, long.as_slice()));
+    assert!(rt; depot.store(name, long.as_slice()).is_ok());
+    assert!(rt; gives(rt.alloc(), &mut depot, name, long.as_slice()));
     // What a run that was killed would leave.
-    assert!(rt; fs::write(&rt, names.beside.as_str(), b"fro".as_slice()).is_ok());
-    assert!(rt; depot.store(names.file.as_str(), b"new").is_ok());
-    assert!(rt; has_alone(&rt, &mut depot, &names, b"new"));
-    fs::remove_dir_all(&rt, names.folder.as_str())?;
+    assert!(rt; depot.store(beside.as_str(), b"front").is_ok());
+    assert!(rt; depot.store(name, b"new").is_ok());
+    assert!(rt; gives(rt.alloc(), &mut depot, name, b"new"));
+    // Nothing is beside it.
+    assert!(rt; fs::remove_file(&rt, beside.as_str()).is_err());
+    assert!(rt; fs::remove_file(&rt, name).is_ok());
     Ok(())
 }
 
 #[test]
 fn a_store_that_fails_leaves_the_old_file(rt: HostRuntime) -> Result<(), Fail> {
-    let names = on_disk(&rt)?;
+    let name = own_name(&rt)?;
+    let name = name.as_str();
+    let beside = name_beside(&rt, name)?;
     let mut depot = DiskDepot::new(&rt);
     let mut full = DiskDepot::new((FullDisk(&rt), rt.alloc()));
-    assert!(rt; depot.store(names.file.as_str(), b"old").is_ok());
-    assert!(rt; full.store(names.file.as_str(), b"new") == Err(StoreFault::Failed));
-    assert!(rt; depot.store(names.folder.as_str(), b"new") == Err(StoreFault::Failed));
-    assert!(rt; has_alone(&rt, &mut depot, &names, b"old"));
-    fs::remove_dir_all(&rt, names.folder.as_str())?;
+    assert!(rt; depot.store(name, b"old").is_ok());
+    assert!(rt; full.store(name, b"new") == Err(StoreFault::Failed));
+    assert!(rt; gives(rt.alloc(), &mut depot, name, b"old"));
+    assert!(rt; fs::remove_file(&rt, beside.as_str()).is_err());
+    assert!(rt; fs::remove_file(&rt, name).is_ok());
     Ok(())
 }
 
 #[test]
 fn a_file_with_a_folder_beside_it_is_written_itself(rt: HostRuntime) -> Result<(), Fail> {
-    let names = on_disk(&rt)?;
+    let name = own_name(&rt)?;
+    let name = name.as_str();
+    let beside = name_beside(&rt, name)?;
     let mut depot = DiskDepot::new(&rt);
-    assert!(rt; fs::create_dir(&rt, names.beside.as_str()).is_ok());
-    assert!(rt; depot.store(names.file.as_str(), b"new").is_ok());
-    assert!(rt; fs::remove_dir(&rt, names.beside.as_str()).is_ok());
-    assert!(rt; has_alone(&rt, &mut depot, &names, b"new"));
-    fs::remove_dir_all(&rt, names.folder.as_str())?;
+    assert!(rt; fs::create_dir(&rt, beside.as_str()).is_ok());
+    assert!(rt; depot.store(name, b"new").is_ok());
+    assert!(rt; gives(rt.alloc(), &mut depot, name, b"new"));
+    assert!(rt; depot.store(beside.as_str(), b"new") == Err(StoreFault::Failed));
+    assert!(rt; fs::remove_dir(&rt, beside.as_str()).is_ok());
+    assert!(rt; fs::remove_file(&rt, name).is_ok());
     Ok(())
 }
