@@ -5,9 +5,8 @@
 --     file_due, fetch_due                    the answer that a file owes a fetch, and that the depot does
 --     FetchAnswers, StoreAnswers             the answer is the one that is due, or `Memory` in place of `Ok`
 --     after_fetch, after_store               what the answer leaves
-use Rattle.std.specs.Prelude.{◌≡◌, ℕ, Bool, true, false, ◌==◌, nat_le, if◌then◌else◌, List, length, Option, Some, None, Result, Ok, Err, IsOk, refl}
+use Rattle.std.specs.Prelude.{◌≡◌, ℕ, Bool, true, false, ◌==◌, nat_le, if◌then◌else◌, List, length, Option, Some, None, Result, Ok, Err, IsOk}
 use Rattle.std.specs.List.{list_any}
-use Rattle.std.specs.Coded.{Coded, code_by, coded×, coded_ℕ, coded_list}
 use Rattle.std.specs.FinMap as map
 use Rattle.ma_io.specs.declared.faults.FetchFault.{FetchFault}
 use Rattle.ma_io.specs.declared.faults.FetchFault.TheVariants.{Failed, Absent, TooLong, Memory}
@@ -26,14 +25,6 @@ pub record DepotState : Type 0 where
   pub fetch_faults : ℕ
   pub store_faults : ℕ
   pub denied : ℕ
-
-abbrev pub depot_code : Coded DepotState
-depot_code =
-    code_by (Files × (List ℕ × (List ℕ × (ℕ × (ℕ × (ℕ × (ℕ × ℕ)))))))
-    (coded× (map.code (coded_list coded_ℕ) (coded_list coded_ℕ)) (coded× (coded_list coded_ℕ) (coded× (coded_list coded_ℕ) (coded× coded_ℕ (coded× coded_ℕ (coded× coded_ℕ (coded× coded_ℕ coded_ℕ)))))))
-    (λ d. (d.files, (d.fail_fetches, (d.fail_stores, (d.fetches, (d.stores, (d.fetch_faults, (d.store_faults, d.denied))))))))
-    (λ p. record { files = p.0; fail_fetches = p.1.0; fail_stores = p.1.1.0; fetches = p.1.1.1.0; stores = p.1.1.1.1.0; fetch_faults = p.1.1.1.1.1.0; store_faults = p.1.1.1.1.1.1.0; denied = p.1.1.1.1.1.1.1 })
-    (λ _. refl)
 
 abbrev pub new_depot : Files → List ℕ → List ℕ → DepotState
 new_depot files fail_fetches fail_stores = record { files = files; fail_fetches = fail_fetches; fail_stores = fail_stores; fetches = 0; stores = 0; fetch_faults = 0; store_faults = 0; denied = 0 }

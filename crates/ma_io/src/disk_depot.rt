@@ -1,12 +1,13 @@
 //! The depot of real files.
-ghost use Rattle.std.specs.Prelude.{◌≡◌, None, OnErr};
+ghost use Rattle.std.specs.Prelude.{◌≡◌, ◌≤◌, None, length, IfOk, OnOk, OnErr};
 ghost use Rattle.ma_io.specs.Count.{Counts};
 ghost use Rattle.ma_io.specs.Disk.{no_faults, counts_after_fetch, counts_after_store};
 ghost use Rattle.ma_io.specs.Fetch.{is_failed_fetch, is_denied_fetch};
 ghost use Rattle.ma_io.specs.Store.{is_failed_store};
 
 use crate::faults::{FetchFault, StoreFault};
-use crate::pieces::{read_whole, write_whole};
+use crate::replacing::store_file;
+use crate::streams::read_whole;
 use crate::traits::Depot;
 use std::alloc::Global;
 use std::fs;
@@ -15,6 +16,13 @@ use std::marker::Model;
 use std::rt::Files;
 
 /// The files of the system, under their paths. It tells nothing of what they hold.
+///
+/// A store under `X` writes a new file `X.part`, which then takes the name `X`. So a run that is killed, or
+/// a disk that is full, leaves the old file whole. A file `X.part` that was there is lost, and a run that is
+/// killed may leave one. The new file has the permissions of the old one; its owner is who runs, and a
+/// further name (a hard link) of the old file keeps the old bytes. What can't be replaced is written itself,
+/// and a fault may leave a front of the bytes there: a device, a link, a file in a folder that takes no new
+/// one.
 #[derive(Drop)]
 pub struct DiskDepot<R> {
     rt: R,
@@ -45,16 +53,11 @@ impl<R: Files> DiskDepot<R> {
     }
 }
 
-impl<R: Files> Depot for DiskDepot<R> {
-    ghost files = { λ _. None };
-
-    ghost fetch_faults = { λ d. d.fetch_faults };
-
-    ghost store_faults = { λ d. d.store_faults };
-
-    ghost denied = { λ d. d.denied };
+impl<R: Files + AllocGlobal> Depot for DiskDepot<R> {
+    ghost held = { λ d. record { files = None; fetch_faults = d.fetch_faults; store_faults = d.store_faults; denied = d.denied } };
 
     fn fetch(&mut self, name: &str, into: &mut Vec<u8>, most: usize) -> Result<(), FetchFault>
+        ensures length { OnOk result (length into.new.items ≤ most) }
         ensures err { OnErr result (into.new.items ≡ into.old.items) }
         ensures after { self.new ≡ counts_after_fetch self.old result }
         ensures fetch_faults { Counts (is_failed_fetch result) self.old.fetch_faults self.new.fetch_faults }
@@ -85,11 +88,14 @@ impl<R: Files> Depot for DiskDepot<R> {
         ensures after { self.new ≡ counts_after_store self.old result }
         ensures store_faults { Counts (is_failed_store result) self.old.store_faults self.new.store_faults }
     {
-        if write_file(&self.rt, name, bytes) {
-            return Ok(());
+        match store_file(&self.rt, self.rt.alloc(), name, bytes) {
+            Ok(()) => Ok(()),
+            Err(StoreFault::Failed) => {
+                self.store_faults = self.store_faults.saturating_add(1);
+                Err(StoreFault::Failed)
+            }
+            Err(StoreFault::Memory) => Err(StoreFault::Memory),
         }
-        self.store_faults = self.store_faults.saturating_add(1);
-        Err(StoreFault::Failed)
     }
 }
 
@@ -99,7 +105,9 @@ fn read_file<R: Files>(
     alloc: Global,
     name: &str,
     most: usize,
-) -> Result<Vec<u8>, FetchFault> {
+) -> Result<Vec<u8>, FetchFault>
+    ensures { IfOk result (λ bytes. length bytes.items ≤ most) }
+{
     let mut file = match fs::open(rt, name) {
         Ok(file) => file,
         Err(error) if error.kind() == ErrorKind::NotFound => return Err(FetchFault::Absent),
@@ -108,12 +116,4 @@ fn read_file<R: Files>(
     let mut bytes = Vec::new(alloc);
     read_whole(&mut file, &mut bytes, most)?;
     Ok(bytes)
-}
-
-/// Makes the file hold these bytes and no others, and says whether it does.
-fn write_file<R: Files>(rt: &R, name: &str, bytes: &[u8]) -> bool {
-    match fs::create(rt, name) {
-        Ok(mut file) => write_whole(&mut file, bytes),
-        Err(_) => false,
-    }
 }

@@ -8,8 +8,9 @@ mod disk_depot;
 mod faults;
 mod mem_depot;
 mod mem_sink;
-mod pieces;
+mod replacing;
 mod std_sink;
+mod streams;
 #[cfg(test)]
 mod tests;
 mod traits;

@@ -1,5 +1,5 @@
 //! A depot in memory.
-ghost use Rattle.std.specs.Prelude.{◌≡◌, ◌↔◌, IsTrue, Some, position, string_bytes, OnOk, OnErr, option_copied};
+ghost use Rattle.std.specs.Prelude.{◌≡◌, ◌≤◌, ◌↔◌, IsTrue, length, Some, position, string_bytes, OnOk, OnErr, option_copied};
 ghost use Rattle.std.specs.Str.{bytes_eq};
 ghost use Rattle.std.specs.FinMap as map;
 ghost use Rattle.ma_io.specs.Count.{Counts};
@@ -32,7 +32,8 @@ pub struct MemDepot {
 
 impl Model for MemDepot {
     ghost use Rattle.ma_io.specs.Files.{files_of};
-    ghost use Rattle.ma_io.specs.MemDepot.{DepotState, depot_code};
+    ghost use Rattle.ma_io.specs.MemDepot.{DepotState};
+    ghost use Rattle.ma_io.specs.steps.Codes.{depot_code};
 
     ghost Value = { DepotState };
 
@@ -86,16 +87,11 @@ impl MemDepot {
 }
 
 impl Depot for MemDepot {
-    ghost files = { λ d. Some d.files };
-
-    ghost fetch_faults = { λ d. d.fetch_faults };
-
-    ghost store_faults = { λ d. d.store_faults };
-
-    ghost denied = { λ d. d.denied };
+    ghost held = { λ d. record { files = Some d.files; fetch_faults = d.fetch_faults; store_faults = d.store_faults; denied = d.denied } };
 
     fn fetch(&mut self, name: &str, into: &mut Vec<u8>, most: usize) -> Result<(), FetchFault>
         ensures answer { FetchAnswers (fetch_due self.old name.now most) into.new.items result }
+        ensures length { OnOk result (length into.new.items ≤ most) }
         ensures err { OnErr result (into.new.items ≡ into.old.items) }
         ensures after { self.new ≡ after_fetch self.old result }
         ensures fetch_faults { Counts (is_failed_fetch result) self.old.fetch_faults self.new.fetch_faults }

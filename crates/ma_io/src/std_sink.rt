@@ -4,7 +4,7 @@ ghost use Rattle.ma_io.specs.Count.{Counts};
 ghost use Rattle.ma_io.specs.Put.{is_failed_put, faults_after_put};
 
 use crate::faults::SinkFault;
-use crate::pieces::write_whole;
+use crate::streams::write_whole;
 use crate::traits::Sink;
 use std::io;
 use std::marker::Model;
@@ -34,9 +34,7 @@ impl<R: Print> StdSink<R> {
 }
 
 impl<R: Print> Sink for StdSink<R> {
-    ghost written = { λ _. None };
-
-    ghost faults = { λ faults. faults };
+    ghost received = { λ faults. record { written = None; faults = faults } };
 
     fn put(&mut self, bytes: &[u8]) -> Result<(), SinkFault>
         ensures after { self.new ≡ faults_after_put self.old result }

@@ -3,7 +3,7 @@ use Rattle.std.proofs.Common.{◌≡◌, ℕ, ◌+◌, ◌-◌, ◌<◌, ◌≤�
 use Rattle.std.specs.List.{position_or_len, before_first, after_first, onto_first}
 use Rattle.std.proofs.lemmas.Bool.{cases_Bool, eq-eqb, ne_eqb, and_parts, and_right, and_from}
 use Rattle.ma_text.specs.Lines.{lines_of}
-use Rattle.ma_text.specs.LineEnds.{without_return}
+use Rattle.ma_text.specs.steps.LineEnds.{without_return}
 use Rattle.ma_text.proofs.Firsts.{before_first-yes, before_first-no, after_first-yes, after_first-no, PassesFirst, position_or_len-yes, position_or_len-no}
 
 abbrev pub is_feed : ℕ → Bool

@@ -1,7 +1,8 @@
 -- Digits that are read one after the other, as far as 64 bits hold the number.
 use Rattle.std.proofs.Common.{◌≡◌, ℕ, ◌+◌, ◌^◌, ◌<◌, ◌≤◌, List, [], ◌∷◌, length, get_or, drop, Option, Some, None, refl, sym, ap, ◌∙◌, arith, add-one, drop-cons, inl, inr, fold}
 use Rattle.std.proofs.lemmas.Bool.{lt-ltb, le-ltb, cases_lt}
-use Rattle.ma_text.specs.Numbers.{with_digit, within_64_bits}
+use Rattle.ma_text.specs.Numbers.{with_digit}
+use Rattle.ma_text.specs.steps.Digits.{within_64_bits}
 
 -- the digits of `rest` behind `value`
 abbrev pub read_from : ℕ → List ℕ → Option ℕ

@@ -1,5 +1,5 @@
 pub mod Blanks
-pub mod LineEnds
 pub mod Lines
 pub mod Numbers
 pub mod Words
+pub mod steps

@@ -20,10 +20,6 @@ with_digit value digit = 10 * value + (digit - 48)
 abbrev pub value_of : List ℕ → ℕ
 value_of digits = fold with_digit 0 digits
 
--- the number, where 64 bits hold it
-abbrev pub within_64_bits : ℕ → Option ℕ
-within_64_bits value = if nat_lt value (2 ^ 64) then Some value else None
-
 -- the number that digits write behind a sign, of any size
 abbrev pub signed : Bool → List ℕ → Option ℤ
 signed is_negative digits =

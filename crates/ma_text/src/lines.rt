@@ -1,6 +1,6 @@
 // The lines of a file.
 ghost use Rattle.std.specs.Prelude.{◌≡◌, ◌==◌, ◌<◌, ◌≤◌, ◌∷◌, [], length, position, MatchOption};
-ghost use Rattle.ma_text.specs.LineEnds.{without_return};
+ghost use Rattle.ma_text.specs.steps.LineEnds.{without_return};
 ghost use Rattle.ma_text.specs.Lines.{end_number, is_blank_line, lines_of, numbered_lines};
 
 use crate::blanks::is_blank;

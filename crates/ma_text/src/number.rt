@@ -1,7 +1,8 @@
 // Whole numbers as words: an optional sign, then digits.
 ghost use Rattle.std.specs.Prelude.{◌≡◌, false, true, Some, position, pos, neg_ℤ};
 ghost use Rattle.std.specs.List.{list_all, before_first, after_first};
-ghost use Rattle.ma_text.specs.Numbers.{digits_of, is_digit, is_point, is_zero, natural_answer, natural_of, signed, signed_answer, value_of, whole_of, with_digit, within_64_bits, written};
+ghost use Rattle.ma_text.specs.Numbers.{digits_of, is_digit, is_point, is_zero, natural_answer, natural_of, signed, signed_answer, value_of, whole_of, with_digit, written};
+ghost use Rattle.ma_text.specs.steps.Digits.{within_64_bits};
 
 #[derive(Clone, Copy, Debug, PartialEq, Eq)]
 pub enum NumberFault {

@@ -20,27 +20,16 @@ fn has_lines(bytes: &[u8], lines: &[(u64, &[u8])], end: u64) -> bool {
 }
 
 #[test]
-fn lines_come_with_their_numbers(rt: HostRuntime) -> Result<(), Fail> {
+fn lines_come_with_their_numbers(rt: HostRuntime) {
     assert!(rt; has_lines(b"a\r\n\n b\n\tc", &[(1, b"a"), (3, b" b"), (4, b"\tc")], 5));
-    assert!(rt; has_lines(b" \t\r\nx y\r\r\n \n\nz\n", &[(2, b"x y\r"), (5, b"z")], 6));
-    Ok(())
-}
-
-#[test]
-fn the_end_has_the_number_of_lines_and_one_more(rt: HostRuntime) -> Result<(), Fail> {
+    assert!(rt;
+        has_lines(
+            b" \t\r\nx y\r\r\n\n \nz\n\r",
+            &[(2, b"x y\r"), (5, b"z"), (6, b"\r")],
+            7
+        )
+    );
     assert!(rt; has_lines(b"", &[], 1));
-    assert!(rt; has_lines(b"a", &[(1, b"a")], 2));
-    assert!(rt; has_lines(b"a\n", &[(1, b"a")], 2));
-    assert!(rt; has_lines(b"\n\n", &[], 3));
-    assert!(rt; has_lines(b"\n \t", &[], 3));
-    Ok(())
-}
-
-#[test]
-fn a_carriage_return_without_a_line_feed_stays(rt: HostRuntime) -> Result<(), Fail> {
-    assert!(rt; has_lines(b"x\r", &[(1, b"x\r")], 2));
-    assert!(rt; has_lines(b"a\rb\n\r", &[(1, b"a\rb"), (2, b"\r")], 3));
-    Ok(())
 }
 
 /// Whether these are the words.
@@ -55,96 +44,50 @@ fn has_words(line: &[u8], words: &[&[u8]]) -> bool {
 }
 
 #[test]
-fn words_stand_between_spaces_and_tabs(rt: HostRuntime) -> Result<(), Fail> {
-    assert!(rt; has_words(b"", &[]));
-    assert!(rt; has_words(b" \t ", &[]));
-    assert!(rt; has_words(b"one", &[b"one"]));
+fn words_stand_between_spaces_and_tabs(rt: HostRuntime) {
     assert!(rt; has_words(b" \tone  2.0\t-3 ", &[b"one", b"2.0", b"-3"]));
-    Ok(())
+    assert!(rt; has_words(b" \t ", &[]));
 }
 
 #[test]
-fn a_word_leaves_what_stands_right_behind_it(rt: HostRuntime) -> Result<(), Fail> {
-    let mut line: &[u8] = b" a  b ";
-    assert!(rt; next_word(&mut line) == Some(b"a"));
-    assert!(rt; line == b"  b ".as_slice());
-    Ok(())
-}
-
-#[test]
-fn digits_may_have_a_sign(rt: HostRuntime) -> Result<(), Fail> {
+fn digits_may_have_a_sign(rt: HostRuntime) {
     assert!(rt; digits(b"+5") == Ok(5));
-    assert!(rt; digits(b"-0") == Ok(0));
-    assert!(rt; digits(b"-17") == Ok(-17));
-    assert!(rt; digits(b"00012") == Ok(12));
     assert!(rt; digits(b"000000000000000000000000000012") == Ok(12));
-    for word in [
-        b"+".as_slice(),
-        b"-",
-        b"1.0",
-        b"+-1",
-        b"1e3",
-        b" 1",
-        b"0x1",
-        b"99999999999999999999a",
-    ] {
+    assert!(rt; digits(b"9223372036854775807") == Ok(i64::MAX));
+    assert!(rt; digits(b"-9223372036854775808") == Ok(i64::MIN));
+    assert!(rt; digits(b"9223372036854775808") == Err(NumberFault::TooBig));
+    assert!(rt; digits(b"-9223372036854775809") == Err(NumberFault::TooBig));
+    assert!(rt; digits(b"") == Err(NumberFault::Empty));
+    for word in [b"+".as_slice(), b"1.0", b"+-1", b"1e3", b" 1", b"0x1"] {
         assert!(rt; digits(word) == Err(NumberFault::NotWhole));
     }
-    assert!(rt; digits(b"") == Err(NumberFault::Empty));
-    Ok(())
 }
 
 #[test]
-fn digits_fit_64_bits_with_their_sign(rt: HostRuntime) -> Result<(), Fail> {
-    assert!(rt; digits(b"9223372036854775807") == Ok(i64::MAX));
-    assert!(rt; digits(b"9223372036854775808") == Err(NumberFault::TooBig));
-    assert!(rt; digits(b"-9223372036854775808") == Ok(i64::MIN));
-    assert!(rt; digits(b"-9223372036854775809") == Err(NumberFault::TooBig));
-    assert!(rt; digits(b"100000000000000000000000000") == Err(NumberFault::TooBig));
-    Ok(())
-}
-
-#[test]
-fn whole_numbers_may_have_zeros_behind_a_point(rt: HostRuntime) -> Result<(), Fail> {
-    assert!(rt; whole(b"12") == Ok(12));
+fn whole_numbers_may_have_zeros_behind_a_point(rt: HostRuntime) {
     assert!(rt; whole(b"12.") == Ok(12));
     assert!(rt; whole(b"-12.000") == Ok(-12));
-    for word in [
-        b"12.5".as_slice(),
-        b"1e3",
-        b"1.0e3",
-        b".",
-        b".0",
-        b"-.0",
-        b"1.0.0",
-        b"1.+0",
-    ] {
+    assert!(rt; whole(b"9223372036854775808.0") == Err(NumberFault::TooBig));
+    for word in [b"12.5".as_slice(), b"1.0e3", b".", b"-.0", b"1.0.0"] {
         assert!(rt; whole(word) == Err(NumberFault::NotWhole));
     }
-    assert!(rt; whole(b"") == Err(NumberFault::Empty));
-    assert!(rt; whole(b"9223372036854775808.0") == Err(NumberFault::TooBig));
-    Ok(())
 }
 
 #[test]
-fn natural_numbers_are_not_negative(rt: HostRuntime) -> Result<(), Fail> {
-    assert!(rt; natural(b"+5") == Ok(5));
+fn natural_numbers_are_not_negative(rt: HostRuntime) {
     assert!(rt; natural(b"-0") == Ok(0));
-    assert!(rt; natural(b"-1") == Err(NumberFault::NotWhole));
-    assert!(rt; natural(b"-18446744073709551616") == Err(NumberFault::NotWhole));
     assert!(rt; natural(b"18446744073709551615") == Ok(u64::MAX));
     assert!(rt; natural(b"18446744073709551616") == Err(NumberFault::TooBig));
-    assert!(rt; natural(b"-") == Err(NumberFault::NotWhole));
-    assert!(rt; natural(b"") == Err(NumberFault::Empty));
-    Ok(())
+    assert!(rt; natural(b"-18446744073709551616") == Err(NumberFault::NotWhole));
+    assert!(rt; magnitude(b"120") == Ok(120));
+    assert!(rt; magnitude(b"+120") == Err(NumberFault::NotWhole));
 }
 
 #[test]
 fn numbers_are_written_at_the_end(rt: HostRuntime) -> Result<(), Fail> {
     let mut out = Vec::new(rt.alloc());
     put_number(&mut out, i64::MIN)?;
-    out.push(b' ')?;
     put_number(&mut out, 120)?;
-    assert!(rt; out.as_slice() == b"-9223372036854775808 120".as_slice());
+    assert!(rt; out.as_slice() == b"-9223372036854775808120".as_slice());
     Ok(())
 }

@@ -4,7 +4,7 @@ use Rattle.std.specs.List.{enumerate_from, list_all, before_first, after_first, 
 use Rattle.std.proofs.lemmas.Bool.{and_from, and_parts, lt-ltb, ltb-true, ne_eqb, not-true, not_from_false}
 use Rattle.std.proofs.lemmas.List.{append-nil, take_rest}
 use Rattle.std.proofs.lemmas.List.Folds.{list_all-append}
-use Rattle.ma_text.specs.LineEnds.{without_return}
+use Rattle.ma_text.specs.steps.LineEnds.{without_return}
 use Rattle.ma_text.specs.Lines.{is_blank_line, lines_of, numbered, numbered_lines}
 use Rattle.ma_text.proofs.Firsts.{after_first-no, after_first-yes, PassesFirst, before_first-no, before_first-yes, position_or_len-no, position_or_len-yes}
 use Rattle.ma_text.proofs.LineCuts.{first_line, is_feed, lines_of-nil}

@@ -1,5 +1,6 @@
 use Rattle.std.proofs.Common.{◌≡◌, ◌^◌, ◌<◌, drop}
-use Rattle.ma_text.specs.Numbers.{value_of, within_64_bits}
+use Rattle.ma_text.specs.Numbers.{value_of}
+use Rattle.ma_text.specs.steps.Digits.{within_64_bits}
 use Rattle.ma_text.proofs.Values.{read_from}
 use Rattle.ma_text.proofs.number.value_of.Given as goal
 

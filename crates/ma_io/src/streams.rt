@@ -1,5 +1,5 @@
-//! Reading and writing in pieces, as the system gives and takes them.
-ghost use Rattle.std.specs.Prelude.{◌≡◌, ◌≢◌, ℕ, IfSome, MatchBool, vec_len, take};
+//! Reading and writing block by block, as the system gives and takes bytes.
+ghost use Rattle.std.specs.Prelude.{◌≡◌, ◌≢◌, ℕ, IfSome, MatchBool, OnOk, vec_len, length, ◌≤◌, take};
 ghost use Rattle.std.specs.Io.KnownBytes.{Appends};
 ghost use Rattle.ma_io.specs.Fetch.{FetchTells};
 
@@ -7,7 +7,7 @@ use crate::faults::FetchFault;
 use std::io::{ErrorKind, Read, Write};
 
 /// How many bytes are read in one call, at most.
-const PIECE: usize = 64 * 1024;
+const BLOCK: usize = 64 * 1024;
 
 /// Reads to the end, but never more than one byte past `most`.
 pub(crate) fn read_whole<F: Read>(
@@ -17,17 +17,18 @@ pub(crate) fn read_whole<F: Read>(
 ) -> Result<(), FetchFault>
     requires { vec_len into.old ≡ 0 }
     ensures told { IfSome (F.remaining file.old) (λ bytes. FetchTells (Some bytes) most into.new.items result) }
+    ensures length { OnOk result (length into.new.items ≤ most) }
     ensures there { result ≢ Err FetchFault.Absent }
 {
-    let mut piece = [0u8; PIECE];
+    let mut block = [0u8; BLOCK];
     for _ in 0..u64::MAX {
         let room = most - into.len();
-        let limit = room.saturating_add(1).min(PIECE);
-        match file.read(&mut piece[..limit]) {
+        let limit = room.saturating_add(1).min(BLOCK);
+        match file.read(&mut block[..limit]) {
             Ok(0) => return Ok(()),
             Ok(taken) if taken > room => return Err(FetchFault::TooLong),
             Ok(taken) => {
-                if into.extend_from_slice(&piece[..taken]).is_err() {
+                if into.extend_from_slice(&block[..taken]).is_err() {
                     return Err(FetchFault::Memory);
                 }
             }

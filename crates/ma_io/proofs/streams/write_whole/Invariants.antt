@@ -1,6 +1,6 @@
 use Rattle.std.proofs.Common.{◌≡◌, ℕ, List, ◌++◌}
 use Rattle.std.specs.Io.KnownBytes.{Appends}
-use Rattle.ma_io.proofs.pieces.write_whole.Given as goal
+use Rattle.ma_io.proofs.streams.write_whole.Given as goal
 
 -- the bytes written so far, and the rest
 abbrev pub invariant-loop : goal.invariant-loop

@@ -1,4 +1,4 @@
--- What a step of cutting a file into lines answers.
+-- No promise: what a step of cutting a file into lines answers.
 use Rattle.std.specs.Prelude.{ℕ, ◌==◌, if◌then◌else◌, List, [], ◌∷◌}
 
 -- without a carriage return at the end

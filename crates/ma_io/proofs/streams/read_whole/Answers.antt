@@ -1,8 +1,8 @@
 use Rattle.std.proofs.Common.{◌≡◌, ◌<◌, ◌++◌, length, take, length-append, length-take, arith, ap, ◌∙◌}
 use Rattle.std.proofs.lemmas.List.{take-append-le}
 use Rattle.ma_io.proofs.Known.{Consumes-append, Consumes-keeps, longer}
-use Rattle.ma_io.proofs.pieces.read_whole.Goals as goal
-use Rattle.ma_io.proofs.pieces.read_whole.Goals.{in-Ok-2+else-is_err, in-Err}
+use Rattle.ma_io.proofs.streams.read_whole.Goals as goal
+use Rattle.ma_io.proofs.streams.read_whole.Goals.{in-Ok-2+else-is_err, in-Err}
 
 -- the piece that was read last passes the limit
 pub returns-in-Ok-clause-told : goal.returns-in-Ok-clause-told

@@ -1,8 +1,8 @@
 use Rattle.std.proofs.Common.{◌≡◌, ◌++◌, ◌∙◌, take, drop, ap}
 use Rattle.std.proofs.lemmas.List.{take_rest}
 use Rattle.ma_io.proofs.Known.{Appends-append, Appends-keeps, Appends-front, send_more}
-use Rattle.ma_io.proofs.pieces.write_whole.Goals as goal
-use Rattle.ma_io.proofs.pieces.write_whole.Goals.{in-Ok, in-Err}
+use Rattle.ma_io.proofs.streams.write_whole.Goals as goal
+use Rattle.ma_io.proofs.streams.write_whole.Goals.{in-Ok, in-Err}
 
 -- a write that took nothing
 pub returns-in-Ok-eq0 : goal.returns-in-Ok-eq0
