@@ -13,7 +13,7 @@ use crate::elements::{put_cell, put_tet, tagged};
 use crate::holders::{Holder, first_holder, holders, marked_cells, residents};
 use crate::lines::head;
 use crate::members::{Member, members, tets};
-use crate::nodes::nodes;
+use crate::nodes::nodes_of;
 use crate::words::{put_bytes, put_number};
 use ma_cells::{Cell, Label, Mark, View};
 use ma_geom::{Memory, Place};
@@ -212,7 +212,7 @@ pub fn write_part(alloc: Global, view: &View, names: &[Name]) -> Result<Vec<u8>,
 {
     let members = members(alloc, view)?;
     let tets = tets(alloc, members.as_slice())?;
-    let nodes = nodes(alloc, tets.as_slice())?;
+    let nodes = nodes_of(alloc, tets.as_slice())?;
     let marks = tagged(alloc, view.marks.as_slice())?;
     let mut out = head(alloc, names, nodes.as_slice())?;
     put_elements(

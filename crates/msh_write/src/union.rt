@@ -8,9 +8,9 @@ ghost use Rattle.msh_write.specs.Text.{counted_section, element_line, elements_o
 
 use crate::elements::{put_cell, put_tet, tagged};
 use crate::lines::head;
-use crate::nodes::nodes;
+use crate::nodes::nodes_of;
 use crate::words::{put_bytes, put_number};
-use ma_cells::{Batch, Mark, Tet};
+use ma_cells::{Ascending, Batch, Mark, Tet};
 use ma_geom::{Memory, Place};
 use msh_read::Name;
 use std::alloc::Global;
@@ -70,13 +70,18 @@ fn put_elements(
     put_bytes(out, b"$EndElements\n")
 }
 
-/// The canonical text of a mesh with these names, which reads as this mesh. A mark names a corner that
-/// no tetrahedron has by the number behind that of the last node.
-pub fn write_union(alloc: Global, mesh: &Batch, names: &[Name]) -> Result<Vec<u8>, Memory>
+/// The canonical text of a mesh with these names, which reads as this mesh, where the nodes of the mesh
+/// are known. A mark names a corner that no tetrahedron has by the number behind that of the last node.
+pub fn write_union_with(
+    alloc: Global,
+    mesh: &Batch,
+    nodes: &Ascending<Place>,
+    names: &[Name],
+) -> Result<Vec<u8>, Memory>
+    requires { nodes.now ≡ nodes_of mesh.now.tets }
     ensures text { IfOk result (λ bytes. bytes.items ≡ text_of mesh.now names.now) }
     ensures reads_back { IfOk result (λ bytes. ReadsBack mesh.now names.now bytes.items) }
 {
-    let nodes = nodes(alloc, mesh.tets.as_slice())?;
     let marks = tagged(alloc, mesh.marks.as_slice())?;
     let mut out = head(alloc, names, nodes.as_slice())?;
     put_elements(
@@ -86,4 +91,13 @@ pub fn write_union(alloc: Global, mesh: &Batch, names: &[Name]) -> Result<Vec<u8
         mesh.tets.as_slice(),
     )?;
     Ok(out)
+}
+
+/// The same, where the nodes are still to be found.
+pub fn write_union(alloc: Global, mesh: &Batch, names: &[Name]) -> Result<Vec<u8>, Memory>
+    ensures text { IfOk result (λ bytes. bytes.items ≡ text_of mesh.now names.now) }
+    ensures reads_back { IfOk result (λ bytes. ReadsBack mesh.now names.now bytes.items) }
+{
+    let nodes = nodes_of(alloc, mesh.tets.as_slice())?;
+    write_union_with(alloc, mesh, &nodes, names)
 }
