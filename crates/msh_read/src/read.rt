@@ -4,9 +4,10 @@ ghost use Rattle.std.specs.List.{All};
 ghost use Rattle.std.specs.List.Sorted.{IsStrictlySortedBy};
 ghost use Rattle.ma_text.specs.Lines.{numbered_lines};
 ghost use Rattle.msh_read.specs.Answer.{Answers, Reads};
-ghost use Rattle.msh_read.specs.Front.{nothing_read};
+ghost use Rattle.msh_read.specs.code_steps.Front.{nothing_read};
 ghost use Rattle.msh_read.specs.GroupNames.{name_cmp};
-ghost use Rattle.msh_read.specs.Reading.{after, read_of};
+ghost use Rattle.msh_read.specs.Reading.{read_of};
+ghost use Rattle.msh_read.specs.code_steps.LinesRead.{after};
 
 use crate::fault::MshFault;
 use crate::front::Front;
@@ -14,7 +15,7 @@ use crate::raw::RawMesh;
 use ma_text::Lines;
 use std::alloc::Global;
 
-/// What all lines say.
+/// What the lines that are left say.
 fn front<'a>(alloc: Global, lines: &mut Lines<'a>) -> Result<Front<'a>, MshFault>
     ensures value { Answers (λ front. front) result (after nothing_read lines.old.lines) }
     ensures end { lines.new.end ≡ lines.old.end }
@@ -29,7 +30,6 @@ fn front<'a>(alloc: Global, lines: &mut Lines<'a>) -> Result<Front<'a>, MshFault
 }
 
 /// The mesh in a file.
-#[tactic(auto, unfolding(crate::specs::Reading::read_of))]
 pub fn read_msh(alloc: Global, bytes: &[u8]) -> Result<RawMesh, MshFault>
     ensures exact { Reads result (read_of bytes.now) }
     ensures names { IfOk result (λ mesh. IsStrictlySortedBy name_cmp mesh.names.items) }

@@ -11,14 +11,13 @@ use Rattle.ma_cells.specs.Tetrahedron.{Tetrahedron, are_corners, is_flat}
 use Rattle.ma_cells.specs.declared.cell.Cell.{Cell}
 use Rattle.ma_cells.specs.declared.cell.Cell.TheVariants.{Point, Seg, Tri}
 use Rattle.ma_text.specs.Words.{words_of}
-use Rattle.msh_read.specs.declared.entry.Entry.TheVariants.{Tet, Mark}
-use Rattle.msh_read.specs.declared.stand.Section.TheVariants.{Elements}
+use Rattle.msh_read.specs.declared.stand.Counted.TheVariants.{Elements}
 use Rattle.msh_read.specs.declared.stand.Stand.TheVariants.{Outside, Count, Entries}
-use Rattle.msh_read.specs.ElementLines.{element_of, nodes_of_kind}
-use Rattle.msh_read.specs.Front.{Front}
+use Rattle.msh_read.specs.ElementLines.{a_mark, a_tet, element_of, nodes_of_kind}
+use Rattle.msh_read.specs.code_steps.Front.{Front}
 use Rattle.msh_read.specs.GroupNames.{GroupName}
 use Rattle.msh_read.specs.Lines.{closes, header_of, is_tag}
-use Rattle.msh_read.specs.Sections.{begun, counted_read, element_read, elements_begun, end_read, header_read, step}
+use Rattle.msh_read.specs.code_steps.LineByLine.{begun, counted_read, element_read, elements_begun, end_read, header_read, step}
 use Rattle.msh_write.specs.ReadsBack.{positions_among, raw_mark, raw_tet}
 use Rattle.msh_write.specs.Text.{counted_section, element_line, kind_of, mark_element, number_among, numbered, oriented, tet_element}
 use Rattle.msh_write.proofs.ElementsBack.{element-closes, element-is_line, element-read}
@@ -78,7 +77,7 @@ module _ (nodes : List Coordinates) (few : length nodes ≤ 2147483647) (number 
     fewer_than_four : (eqb (length (positions_among nodes (corners_of mark.cell))) 4) ≡ false
     fewer_than_four = ne_eqb _ 4 (λ e. omega (arith, length-map (corners_of mark.cell) (λ p. number_among nodes p - 1), few-corners mark.cell mark_cell))
 
-    pub mark-read : element_of (numbers_from 1 (length nodes)) (element_line nodes number (mark_element [] mark)) ≡ Ok (Mark (raw_mark nodes mark))
+    pub mark-read : element_of (numbers_from 1 (length nodes)) (element_line nodes number (mark_element [] mark)) ≡ Ok (a_mark (raw_mark nodes mark))
     mark-read =
         element-read nodes few number (kind_of mark.cell) mark.phys mark.elem (corners_of mark.cell) low high (small_kind mark.cell) mark_tags.0 mark_tags.1 mark_there (kind-known mark.cell mark_cell)
         (distinct-from_set (corners_of mark.cell) (corners_of mark.cell) (ascending-set (corners_of mark.cell) (cell-ascends mark.cell mark_cell)) refl)
@@ -109,7 +108,7 @@ module _ (nodes : List Coordinates) (few : length nodes ≤ 2147483647) (number 
     just_four : (eqb (length (positions_among nodes (oriented tet.corners))) 4) ≡ true
     just_four = eq-eqb _ 4 (length-map (oriented tet.corners) (λ p. number_among nodes p - 1) ∙ tet_four)
 
-    pub tet-read : element_of (numbers_from 1 (length nodes)) (element_line nodes number (tet_element [] tet)) ≡ Ok (Tet (raw_tet nodes tet))
+    pub tet-read : element_of (numbers_from 1 (length nodes)) (element_line nodes number (tet_element [] tet)) ≡ Ok (a_tet (raw_tet nodes tet))
     tet-read =
         element-read nodes few number 4 tet.phys tet.elem (oriented tet.corners) low high small_four tet_tags.0 tet_tags.1 tet_there (ap (λ n. Some n) (sym tet_four))
         (distinct-from_set (oriented tet.corners) tet.corners (oriented-set tet.corners tet_ascends) (oriented-length tet.corners))

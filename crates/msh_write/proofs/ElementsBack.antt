@@ -7,7 +7,7 @@ use Rattle.std.proofs.lemmas.Bool.{and_from, and_parts, eq-eqb, le-leb, ltb-true
 use Rattle.std.proofs.lemmas.List.{length-map}
 use Rattle.ma_geom.specs.Coordinates.{Coordinates, place_cmp}
 use Rattle.ma_cells.specs.Ascending.{are_distinct, has}
-use Rattle.msh_read.specs.ElementLines.{element_at, element_by, element_of, entry_of, nodes_of_kind, numbers_of, positions_of}
+use Rattle.msh_read.specs.ElementLines.{element_at, element_by, element_of, element_with, nodes_of_kind, numbers_of, positions_of}
 use Rattle.msh_read.specs.Lines.{closes, is_number, is_tag, number_of}
 use Rattle.msh_read.specs.Steps.{each}
 use Rattle.ma_text.specs.Words.{words_of}
@@ -90,17 +90,17 @@ module _ (nodes : List Coordinates) (few : length nodes ≤ 2147483647) where
       unfolding positions_of
       positions = rw (positions-found nodes corners there, numbers-different nodes corners there apart) refl
 
-      by_tags : element_by (numbers_from 1 (length nodes)) (phys ∷ elem ∷ []) (numbers_of_places nodes corners) ≡ Ok (entry_of (phys ∷ elem ∷ []) (map (λ p. number_among nodes p - 1) corners))
+      by_tags : element_by (numbers_from 1 (length nodes)) (phys ∷ elem ∷ []) (numbers_of_places nodes corners) ≡ Ok (element_with (phys ∷ elem ∷ []) (map (λ p. number_among nodes p - 1) corners))
       unfolding element_by
       by_tags = rw (phys_fits, elem_fits, positions) refl
 
-      by_count : element_at (numbers_from 1 (length nodes)) (pos kind) 2 (phys ∷ elem ∷ numbers_of_places nodes corners) ≡ Ok (entry_of (phys ∷ elem ∷ []) (map (λ p. number_among nodes p - 1) corners))
+      by_count : element_at (numbers_from 1 (length nodes)) (pos kind) 2 (phys ∷ elem ∷ numbers_of_places nodes corners) ≡ Ok (element_with (phys ∷ elem ∷ []) (map (λ p. number_among nodes p - 1) corners))
       unfolding element_at
       by_count =
           let long : eqb (length (phys ∷ elem ∷ numbers_of_places nodes corners)) (2 + length corners) ≡ true = eq-eqb _ _ (omega (arith, length-map corners (λ p. pos (number_among nodes p)))) in
           rw (known_kind, long) by_tags
 
       pub element-read : element_of (numbers_from 1 (length nodes)) (element_line nodes number (record { kind = kind; tags = phys ∷ elem ∷ []; corners = corners }))
-          ≡ Ok (entry_of (phys ∷ elem ∷ []) (map (λ p. number_among nodes p - 1) corners))
+          ≡ Ok (element_with (phys ∷ elem ∷ []) (map (λ p. number_among nodes p - 1) corners))
       unfolding element_of
       element-read = rw (element-numbers, is_number-pos number low high) by_count

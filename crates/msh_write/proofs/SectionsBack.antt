@@ -8,14 +8,14 @@ use Rattle.ma_geom.specs.Coordinates.{Coordinates}
 use Rattle.ma_text.specs.Words.{words_of}
 use Rattle.msh_read.specs.declared.raw.RawMark.{RawMark}
 use Rattle.msh_read.specs.declared.raw.RawTet.{RawTet}
-use Rattle.msh_read.specs.declared.stand.Section.{Section}
-use Rattle.msh_read.specs.declared.stand.Section.TheVariants.{Names, Nodes}
+use Rattle.msh_read.specs.declared.stand.Counted.{Counted}
+use Rattle.msh_read.specs.declared.stand.Counted.TheVariants.{Names, Nodes}
 use Rattle.msh_read.specs.declared.stand.Stand.{Stand}
 use Rattle.msh_read.specs.declared.stand.Stand.TheVariants.{Outside, Count, Entries}
-use Rattle.msh_read.specs.Front.{Front, nothing_read}
+use Rattle.msh_read.specs.code_steps.Front.{Front, nothing_read}
 use Rattle.msh_read.specs.GroupNames.{GroupName}
 use Rattle.msh_read.specs.Lines.{closes, count_of, format_of, header_of}
-use Rattle.msh_read.specs.Sections.{at, begun, count_read, counted_read, end_read, enough, entry_read, format_begun, format_end_read, format_read, header_read, name_read, names_begun, next_read, node_read, nodes_begun, step}
+use Rattle.msh_read.specs.code_steps.LineByLine.{at, begun, count_read, counted_read, end_read, enough, entry_read, format_begun, format_end_read, format_read, header_read, name_read, names_begun, next_read, node_read, nodes_begun, step}
 use Rattle.msh_write.specs.Text.{counted_section, format_lines, name_line, node_line, numbered}
 use Rattle.msh_write.proofs.ElementsBack.{number_of-decimal}
 use Rattle.msh_write.proofs.EntriesBack.{is_in_range, is_readable, name-closes, name-read, node-closes, node-read}
@@ -53,12 +53,12 @@ count_of-decimal n h = rw (words_of-word (decimal n) (decimal-is_word n (omega a
 pub not_zero : (n : ℕ) → 1 ≤ n → eqb n 0 ≡ false
 not_zero n h = ne_eqb n 0 (λ e. omega arith)
 
-pub count_read-any : (section : Section) (front : Front) (n : ℕ) → n < 2 ^ 63 → enough section n ≡ Ok tt → count_read section front (decimal n) ≡ Ok (at (Entries section n) front)
+pub count_read-any : (section : Counted) (front : Front) (n : ℕ) → n < 2 ^ 63 → enough section n ≡ Ok tt → count_read section front (decimal n) ≡ Ok (at (Entries section n) front)
 unfolding count_read
 count_read-any section front n h some = rw (count_of-decimal n h, some) refl
 
 -- an entry that is read, where it is no end
-pub next-any : (section : Section) (left : ℕ) (front next : Front) (line : List ℕ) → closes front.header line ≡ false → entry_read section front line ≡ Ok next
+pub next-any : (section : Counted) (left : ℕ) (front next : Front) (line : List ℕ) → closes front.header line ≡ false → entry_read section front line ≡ Ok next
     → counted_read section (suc left) front line ≡ Ok (at (Entries section left) next)
 unfolding counted_read next_read
 next-any section left front next line other read =

@@ -13,11 +13,13 @@ use Rattle.ma_cells.specs.Tetrahedron.{Tetrahedron}
 use Rattle.ma_cells.proofs.Ascents.{is-ascending_of}
 use Rattle.ma_text.specs.Lines.{end_number}
 use Rattle.msh_read.specs.declared.stand.Stand.TheVariants.{Outside}
-use Rattle.msh_read.specs.Front.{Front, nothing_read}
+use Rattle.msh_read.specs.code_steps.Front.{Front, nothing_read}
 use Rattle.msh_read.specs.GroupNames.{GroupName, name_cmp, name_cmp_total}
-use Rattle.msh_read.specs.Reading.{after, at_line, end_of, read_of}
+use Rattle.msh_read.specs.Reading.{at_line, read_of}
+use Rattle.msh_read.specs.code_steps.LinesRead.{after, end_of, read_by_lines}
 use Rattle.msh_read.specs.Steps.{◌>>=◌}
 use Rattle.msh_read.proofs.NameOrder.{name_cmp-IsAntisymmetric}
+use Rattle.msh_read.proofs.SectionWise.{read_of-by_lines}
 use Rattle.msh_write.specs.ReadsBack.{raw_mark, raw_tet}
 use Rattle.msh_write.specs.Text.{counted_section, element_line, ended, format_lines, head_lines, mark_element, name_line, names_lines, node_line, numbered, tet_element}
 use Rattle.msh_write.proofs.ElementSectionBack.{elements-run, is_good_mark, is_good_tet, mark-is_line, tet-is_line}
@@ -121,8 +123,9 @@ module _ (names : List GroupName) (nodes : List Coordinates) (marks : List CellM
   end-read rise = rw (set_of_names rise) refl
 
   pub text-read : IsStrictlySortedBy name_cmp names → read_of (ended lines) ≡ Ok (record { nodes = nodes; tets = map (raw_tet nodes) tets; marks = map (raw_mark nodes) marks; names = names })
-  unfolding read_of
+  unfolding read_by_lines
   text-read rise =
-      ap (λ l. after nothing_read l >>= λ front. at_line (end_number (ended lines)) (end_of front)) (numbered_lines-ended lines lines-good)
+      read_of-by_lines (ended lines)
+      ∙ ap (λ l. after nothing_read l >>= λ front. at_line (end_number (ended lines)) (end_of front)) (numbered_lines-ended lines lines-good)
       ∙ ap (λ r. r >>= λ front. at_line (end_number (ended lines)) (end_of front)) (run-after nothing_read last lines 1 lines-run)
       ∙ ap (at_line (end_number (ended lines))) (end-read rise)
