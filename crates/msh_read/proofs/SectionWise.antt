@@ -21,7 +21,7 @@ use Rattle.msh_read.specs.Lines.{closes, count_of, format_of, header_of}
 use Rattle.msh_read.specs.NameLines.{name_of}
 use Rattle.msh_read.specs.NodeLines.{node_of}
 use Rattle.msh_read.specs.Raw.{Raw}
-use Rattle.msh_read.specs.Reading.{FileRead, any_count, at_least_one, at_line, counted_in, ended, entries_in, format_in, no_more, nothing_known, numbers_of_nodes, read_of, skipped, whole, with_elements, with_format, with_named, with_names, with_nodes, with_section, with_sections}
+use Rattle.msh_read.specs.Reading.{FileRead, any_count, at_least_one, at_line, counted_in, end_line_in, entries_in, format_in, no_more, nothing_known, numbers_of_nodes, read_of, skipped, mesh_in, with_elements, with_format, with_named, with_names, with_nodes, with_section, with_sections}
 use Rattle.msh_read.specs.Sections.{BehindHeader, NumberedLine, Section, behind_header, sections_of}
 use Rattle.msh_read.specs.Steps.{◌>>=◌, ◌>>◌}
 use Rattle.msh_read.specs.code_steps.Front.{Front, nothing_read}
@@ -57,13 +57,13 @@ front_of stand header file = record {
 }
 
 -- a file may end with the same
-end-whole : (header : List ℕ) (format : Bool) (names : Option (List GroupName)) (nodes : Option (List (ℤ × Coordinates))) (elements : Option (List RawElement))
-    → end_of (front_of Outside header (record { has_format = format; names = names; nodes = nodes; elements = elements })) ≡ whole (record { has_format = format; names = names; nodes = nodes; elements = elements })
-unfolding end_of whole
-end-whole header false names nodes elements = refl
-end-whole header true names None elements = refl
-end-whole header true names (Some nodes) None = refl
-end-whole header true names (Some nodes) (Some elements) = refl
+end-mesh_in : (header : List ℕ) (format : Bool) (names : Option (List GroupName)) (nodes : Option (List (ℤ × Coordinates))) (elements : Option (List RawElement))
+    → end_of (front_of Outside header (record { has_format = format; names = names; nodes = nodes; elements = elements })) ≡ mesh_in (record { has_format = format; names = names; nodes = nodes; elements = elements })
+unfolding end_of mesh_in
+end-mesh_in header false names nodes elements = refl
+end-mesh_in header true names None elements = refl
+end-mesh_in header true names (Some nodes) None = refl
+end-mesh_in header true names (Some nodes) (Some elements) = refl
 
 module _ (end : ℕ) where
   -- the lines that are left, and the sections
@@ -72,7 +72,7 @@ module _ (end : ℕ) where
   by_lines front (line ∷ lines) = at_line line.0 (step front line.1) >>= λ next. by_lines next lines
 
   abbrev by_sections : FileRead → List Section → Result Raw MshFault
-  by_sections file [] = at_line end (whole file)
+  by_sections file [] = at_line end (mesh_in file)
   by_sections file (section ∷ sections) = with_section section file >>= λ next. by_sections next sections
 
   by_lines-after : (lines : List NumberedLine) (front : Front) → by_lines front lines ≡ (after front lines >>= λ f. at_line end (end_of f))
@@ -83,10 +83,10 @@ module _ (end : ℕ) where
         | Err kind ↦ refl
       ]
 
-  by_sections-with : (sections : List Section) (file : FileRead) → by_sections file sections ≡ (with_sections sections file >>= λ f. at_line end (whole f))
+  by_sections-with : (sections : List Section) (file : FileRead) → by_sections file sections ≡ (with_sections sections file >>= λ f. at_line end (mesh_in f))
   by_sections-with [] file = refl
   by_sections-with (section ∷ sections) file =
-      elim (with_section section file) as (λ r. (r >>= λ next. by_sections next sections) ≡ ((r >>= λ next. with_sections sections next) >>= λ f. at_line end (whole f))) [
+      elim (with_section section file) as (λ r. (r >>= λ next. by_sections next sections) ≡ ((r >>= λ next. with_sections sections next) >>= λ f. at_line end (mesh_in f))) [
         | Ok next ↦ by_sections-with sections next
         | Err fault ↦ refl
       ]
@@ -103,7 +103,7 @@ module _ (end : ℕ) where
     section_at header lines = record { header = header; lines = (behind name lines).lines; end = (behind name lines).end }
 
     skipped-lines : (lines : List NumberedLine) (file : FileRead) → length lines ≤ most
-        → by_lines (front_of Skipped name file) lines ≡ (ended (behind name lines).end >> by_sections file (behind name lines).others)
+        → by_lines (front_of Skipped name file) lines ≡ (end_line_in (behind name lines).end >> by_sections file (behind name lines).others)
     unfolding step skipped_read end_of
     skipped-lines [] file few = refl
     skipped-lines (line ∷ lines) file few =
@@ -285,7 +285,7 @@ module _ (end : ℕ) where
               | inl nodes ↦ rw nodes (nodes-begin header lines before file.has_format file.names file.nodes file.elements few)
               | inr further ↦ rw further (elim (cases_Bool (bytes_eq name (codes "Elements"))) [
                 | inl elements ↦ rw elements (elements-begin header lines before file.has_format file.names file.nodes file.elements few)
-                | inr none ↦ rw none (skipped-lines lines file few ∙ sym (then-bind (ended (behind name lines).end) (Ok file) _))
+                | inr none ↦ rw none (skipped-lines lines file few ∙ sym (then-bind (end_line_in (behind name lines).end) (Ok file) _))
               ])
             ])
           ])
@@ -294,7 +294,7 @@ module _ (end : ℕ) where
   -- lines outside of sections
   outside-alike : (most : ℕ) → OutsideAlike most
   unfolding step header_read with_section
-  outside-alike most [] few header file = ap (at_line end) (end-whole header file.has_format file.names file.nodes file.elements)
+  outside-alike most [] few header file = ap (at_line end) (end-mesh_in header file.has_format file.names file.nodes file.elements)
   outside-alike zero (line ∷ lines) few header file = absurd (omega arith)
   outside-alike (suc most) (line ∷ lines) few header file =
       elim (header_of line.1) as (λ r. (at_line line.0 (r >>= λ name. begun name (front_of Outside header file)) >>= λ next. by_lines next lines)

@@ -30,12 +30,12 @@ abbrev pub wanting : MshKind → SectionEnd → MshFault
 wanting kind end = At end.at (if end.is_written then kind else Truncated)
 
 -- a section ends with its line
-abbrev pub ended : SectionEnd → Result (Unit {0}) MshFault
-ended end = at_line end.at (check Truncated end.is_written)
+abbrev pub end_line_in : SectionEnd → Result (Unit {0}) MshFault
+end_line_in end = at_line end.at (check Truncated end.is_written)
 
 -- no line is left, and the section ends
 abbrev pub no_more : MshKind → SectionEnd → List NumberedLine → Result (Unit {0}) MshFault
-no_more kind end [] = ended end
+no_more kind end [] = end_line_in end
 no_more kind end (line ∷ lines) = Err (At line.0 kind)
 
 -- the format's one line
@@ -119,7 +119,7 @@ with_elements section file = do
 -- a section of another name is skipped up to its end
 unfoldable pub skipped : Section → FileRead → Result FileRead MshFault
 skipped section file = do
-  ended section.end
+  end_line_in section.end
   Ok file
 
 unfoldable pub with_named : List ℕ → Section → FileRead → Result FileRead MshFault
@@ -141,11 +141,11 @@ with_sections (section ∷ sections) file = do
   next ← with_section section file
   with_sections sections next
 
--- ---- a whole file
+-- ---- a mesh_in file
 
 -- what a file has to have at its end
-unfoldable pub whole : FileRead → Result Raw MshKind
-whole file = do
+unfoldable pub mesh_in : FileRead → Result Raw MshKind
+mesh_in file = do
   check NoFormat file.has_format
   nodes ← or_fault NoNodes file.nodes
   elements ← or_fault NoElements file.elements
@@ -159,4 +159,4 @@ whole file = do
 unfoldable pub read_of : List ℕ → Result Raw MshFault
 read_of bytes = do
   file ← with_sections (sections_of (end_number bytes) (numbered_lines bytes)) nothing_known
-  at_line (end_number bytes) (whole file)
+  at_line (end_number bytes) (mesh_in file)

@@ -25,13 +25,13 @@ pub record BehindHeader : Type 0 where
   pub others : List Section
 
 -- whether a line ends the section with this name, if a header has given it one
-abbrev pub is_end_of : Result (List ℕ) MshKind → List ℕ → Bool
-is_end_of (Ok name) line = closes name line
-is_end_of (Err kind) line = false
+abbrev pub ends_section : Result (List ℕ) MshKind → List ℕ → Bool
+ends_section (Ok name) line = closes name line
+ends_section (Err kind) line = false
 
 abbrev mutual
-  -- The sections of these lines, where the file's end has the number: each begins with a line behind the end of the one
-  -- before it, and ends with the first line that ends it.
+  -- The sections of a file, or of what is behind a section's end, where the file's end has the number. The first line is
+  -- a header, whatever it says, and its section goes to the first line that ends it.
   pub sections_of : ℕ → List NumberedLine → List Section
   sections_of end [] = []
   sections_of end (header ∷ lines) =
@@ -41,5 +41,5 @@ abbrev mutual
   pub behind_header : ℕ → Result (List ℕ) MshKind → List NumberedLine → BehindHeader
   behind_header end name [] = record { lines = []; end = record { at = end; is_written = false }; others = [] }
   behind_header end name (line ∷ lines) =
-      if is_end_of name line.1 then record { lines = []; end = record { at = line.0; is_written = true }; others = sections_of end lines }
+      if ends_section name line.1 then record { lines = []; end = record { at = line.0; is_written = true }; others = sections_of end lines }
       else (let behind = behind_header end name lines in record behind { lines = line ∷ behind.lines })

@@ -7,7 +7,7 @@ ghost use Rattle.msh_read.specs.code_steps.LineAnswers.{Gives, element_seen};
 ghost use Rattle.msh_read.specs.code_steps.Front.{nothing_read};
 ghost use Rattle.msh_read.specs.GroupNames.{has_dimension, name_cmp};
 ghost use Rattle.msh_read.specs.Raw.{raw};
-ghost use Rattle.msh_read.specs.code_steps.LinesRead.{end_of, is_outside, may_end, mesh_of};
+ghost use Rattle.msh_read.specs.code_steps.LinesRead.{end_of, is_outside, may_end, mesh_said};
 ghost use Rattle.msh_read.specs.code_steps.LineByLine.{at, begin, begun, count_read, counted_read, element_read, elements_begun, end_read, entry_read, enough, format_begun, format_end_read, format_read, header_read, name_read, names_begun, next_read, node_read, nodes_begun, skipped_read, step, with_element};
 
 use crate::elements::element;
@@ -231,7 +231,7 @@ impl<'a> Front<'a> {
         Ok(())
     }
 
-    #[tactic(auto, using(crate::proofs::Dimensions::kept), unfolding(crate::specs::code_steps::LineByLine::name_read))]
+    #[tactic(auto, using(crate::proofs::Dimensions::dimensions_kept), unfolding(crate::specs::code_steps::LineByLine::name_read))]
     fn read_name(&mut self, line: &[u8]) -> Result<(), Fault>
         ensures { Gives (λ _. self.new) result (name_read self.old line.now) }
     {
@@ -355,7 +355,7 @@ impl<'a> Front<'a> {
     }
 
     fn into_mesh(self) -> RawMesh
-        ensures value { raw result ≡ mesh_of self.entry }
+        ensures value { raw result ≡ mesh_said self.entry }
         ensures names { IsStrictlySortedBy name_cmp result.names.items }
         ensures dimensions { All (λ name. name.dimension ≤ 3) result.names.items }
     {

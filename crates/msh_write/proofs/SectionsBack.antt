@@ -16,12 +16,12 @@ use Rattle.msh_read.specs.code_steps.Front.{Front, nothing_read}
 use Rattle.msh_read.specs.GroupNames.{GroupName}
 use Rattle.msh_read.specs.Lines.{closes, count_of, format_of, header_of}
 use Rattle.msh_read.specs.code_steps.LineByLine.{at, begun, count_read, counted_read, end_read, enough, entry_read, format_begun, format_end_read, format_read, header_read, name_read, names_begun, next_read, node_read, nodes_begun, step}
-use Rattle.msh_write.specs.Text.{counted_section, format_lines, name_line, node_line, numbered}
+use Rattle.msh_write.specs.Text.{counted_section, format_lines, name_line, node_line, item_lines}
 use Rattle.msh_write.proofs.ElementsBack.{number_of-decimal}
 use Rattle.msh_write.proofs.EntriesBack.{is_in_range, is_readable, name-closes, name-read, node-closes, node-read}
 use Rattle.msh_write.proofs.NodesBack.{numbers-push, numbers_from}
 use Rattle.msh_write.proofs.RunsBack.{run, run-section, run-all}
-use Rattle.msh_write.proofs.TextLines.{length-numbered}
+use Rattle.msh_write.proofs.TextLines.{length-item_lines}
 use Rattle.msh_write.proofs.WordsBack.{decimal-is_word, words_of-word}
 
 -- a front behind the format
@@ -139,10 +139,10 @@ module _ (has_names : Bool) (names : List GroupName) where
   nodes_end nodes = refl
 
   pub nodes-run : (header : List ℕ) (nodes : List Coordinates) → 1 ≤ length nodes → length nodes ≤ 2147483647 → list_all is_in_range nodes ≡ true
-      → run (front_at Outside header has_names false false names [] [] [] []) (counted_section (codes "Nodes") (numbered node_line nodes))
+      → run (front_at Outside header has_names false false names [] [] [] []) (counted_section (codes "Nodes") (item_lines node_line nodes))
       ≡ Ok (front_at Outside (codes "Nodes") has_names true false names (numbers_from 1 (length nodes)) nodes [] [])
   nodes-run header nodes some few near =
-      let long : length (numbered node_line nodes) ≡ length nodes = length-numbered node_line nodes in
+      let long : length (item_lines node_line nodes) ≡ length nodes = length-item_lines node_line nodes in
       let none : length nodes + 0 ≡ length nodes = omega arith in
       let body = run-all node_line noded is_in_range 2147483647 node_steps nodes 0 few near in
-      run-section (codes "Nodes") (numbered node_line nodes) _ _ _ _ _ (nodes_begin header) (nodes_count (length (numbered node_line nodes)) (omega arith) (omega arith)) (rw long (rw none at body)) (nodes_end nodes)
+      run-section (codes "Nodes") (item_lines node_line nodes) _ _ _ _ _ (nodes_begin header) (nodes_count (length (item_lines node_line nodes)) (omega arith) (omega arith)) (rw long (rw none at body)) (nodes_end nodes)

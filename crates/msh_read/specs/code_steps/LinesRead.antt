@@ -35,13 +35,13 @@ may_end front = do
   check NoElements front.has_elements
 
 -- what all lines say
-abbrev pub mesh_of : Front → Raw
-mesh_of front = record { nodes = front.nodes; tets = front.tets; marks = front.marks; names = ascending_of name_cmp front.names }
+abbrev pub mesh_said : Front → Raw
+mesh_said front = record { nodes = front.nodes; tets = front.tets; marks = front.marks; names = ascending_of name_cmp front.names }
 
 unfoldable pub end_of : Front → Result Raw MshKind
 end_of front = do
   may_end front
-  Ok (mesh_of front)
+  Ok (mesh_said front)
 
 unfoldable pub read_by_lines : List ℕ → Result Raw MshFault
 read_by_lines bytes = do
