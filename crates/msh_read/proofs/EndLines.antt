@@ -6,18 +6,18 @@ use Rattle.std.proofs.lemmas.Bool.{and_parts, cases_Bool, eqb-true}
 use Rattle.ma_text.specs.Numbers.{are_digits, digits_of, is_digit, written}
 use Rattle.ma_text.specs.Words.{words_of}
 use Rattle.msh_read.specs.declared.fault.MshKind.TheVariants.{BadLine}
-use Rattle.msh_read.specs.Lines.{begins_with, closes, count_of, format_of, is_end, number_of, one_of}
+use Rattle.msh_read.specs.Lines.{begins_with, closes, count_of, format_of, is_end, number_in_word, one_of}
 
 -- no number begins with a '$'
-dollar : (rest : List ℕ) → number_of (36 ∷ rest) ≡ Err BadLine
-unfolding number_of digits_of written
+dollar : (rest : List ℕ) → number_in_word (36 ∷ rest) ≡ Err BadLine
+unfolding number_in_word digits_of written
 dollar rest =
     elim (cases_Bool (are_digits (36 ∷ rest))) [
       | inl digits ↦ absurd (let all : false ≡ true = (and_parts (ltb 0 (length (36 ∷ rest))) (list_all is_digit (36 ∷ rest)) digits).1 in cc)
       | inr other ↦ rw other refl
     ]
 
-no_number : (word : List ℕ) → begins_with (codes "$End") word ≡ true → number_of word ≡ Err BadLine
+no_number : (word : List ℕ) → begins_with (codes "$End") word ≡ true → number_in_word word ≡ Err BadLine
 no_number [] h = absurd cc
 no_number (first ∷ rest) h =
     let is : first ≡ 36 = eqb-true first 36 (and_parts (eqb first 36) _ h).0 in

@@ -95,15 +95,15 @@ module _ (end : ℕ) where
   abbrev OutsideAlike : ℕ → Type 0
   OutsideAlike most = (lines : List NumberedLine) → length lines ≤ most → (header : List ℕ) (file : FileRead) → by_lines (front_of Outside header file) lines ≡ by_sections file (sections_of end lines)
 
-  abbrev behind : List ℕ → List NumberedLine → BehindHeader
-  behind name lines = behind_header end (Ok name) lines
+  abbrev behind_named : List ℕ → List NumberedLine → BehindHeader
+  behind_named name lines = behind_header end (Ok name) lines
 
   module _ (name : List ℕ) (most : ℕ) (outside : OutsideAlike most) where
     abbrev section_at : NumberedLine → List NumberedLine → Section
-    section_at header lines = record { header = header; lines = (behind name lines).lines; end = (behind name lines).end }
+    section_at header lines = record { header = header; lines = (behind_named name lines).lines; end = (behind_named name lines).end }
 
     skipped-lines : (lines : List NumberedLine) (file : FileRead) → length lines ≤ most
-        → by_lines (front_of Skipped name file) lines ≡ (end_line_in (behind name lines).end >> by_sections file (behind name lines).others)
+        → by_lines (front_of Skipped name file) lines ≡ (end_line_in (behind_named name lines).end >> by_sections file (behind_named name lines).others)
     unfolding step skipped_read end_of
     skipped-lines [] file few = refl
     skipped-lines (line ∷ lines) file few =
@@ -113,7 +113,7 @@ module _ (end : ℕ) where
         ]
 
     format-ended : (lines : List NumberedLine) (file : FileRead) → length lines ≤ most
-        → by_lines (front_of FormatEnd name file) lines ≡ (no_more BadLine (behind name lines).end (behind name lines).lines >> by_sections file (behind name lines).others)
+        → by_lines (front_of FormatEnd name file) lines ≡ (no_more BadLine (behind_named name lines).end (behind_named name lines).lines >> by_sections file (behind_named name lines).others)
     unfolding step format_end_read end_of
     format-ended [] file few = refl
     format-ended (line ∷ lines) file few =
@@ -123,7 +123,7 @@ module _ (end : ℕ) where
         ]
 
     format-lines : (lines : List NumberedLine) (file : FileRead) → length lines ≤ most
-        → by_lines (front_of Format name file) lines ≡ (format_in (behind name lines).end (behind name lines).lines >> by_sections file (behind name lines).others)
+        → by_lines (front_of Format name file) lines ≡ (format_in (behind_named name lines).end (behind_named name lines).lines >> by_sections file (behind_named name lines).others)
     unfolding step format_read end_of
     format-lines [] file few = refl
     format-lines (line ∷ lines) file few =
@@ -131,7 +131,7 @@ module _ (end : ℕ) where
           | inl ends ↦ rw (ends, format_of-end name line.1 ends) refl
           | inr stays ↦ rw stays (
               elim (format_of line.1) as (λ r. (at_line line.0 (r >> Ok (front_of FormatEnd name file)) >>= λ next. by_lines next lines)
-              ≡ ((at_line line.0 r >> no_more BadLine (behind name lines).end (behind name lines).lines) >> by_sections file (behind name lines).others)) [
+              ≡ ((at_line line.0 r >> no_more BadLine (behind_named name lines).end (behind_named name lines).lines) >> by_sections file (behind_named name lines).others)) [
                 | Ok done ↦ format-ended lines file (omega arith)
                 | Err kind ↦ refl
               ])
@@ -143,7 +143,7 @@ module _ (end : ℕ) where
         (some : ℕ → Result (Unit {0}) MshKind) (same_enough : (count : ℕ) → enough section count ≡ some count) where
       entry-lines : (lines : List NumberedLine) (left : ℕ) (done : List A) → length lines ≤ most
           → by_lines (front_of (Entries section left) name (with_done done)) lines
-          ≡ (entries_in read (behind name lines).end left done (behind name lines).lines >>= λ out. by_sections (with_done out) (behind name lines).others)
+          ≡ (entries_in read (behind_named name lines).end left done (behind_named name lines).lines >>= λ out. by_sections (with_done out) (behind_named name lines).others)
       unfolding step counted_read end_read next_read end_of
       entry-lines [] zero done few = refl
       entry-lines [] (suc left) done few = refl
@@ -159,7 +159,7 @@ module _ (end : ℕ) where
             | inl ends ↦ rw (ends, other) refl
             | inr stays ↦ rw (stays, other, fewer, reads (Entries section (suc left)) done line.1) (
                 elim (read done line.1) as (λ r. (at_line line.0 ((r >>= λ e. Ok (front_of (Entries section (suc left)) name (with_done (done ++ e ∷ [])))) >>= λ next. Ok (record next { stand = Entries section left })) >>= λ next. by_lines next lines)
-                ≡ ((at_line line.0 r >>= λ e. entries_in read (behind name lines).end left (done ++ e ∷ []) (behind name lines).lines) >>= λ out. by_sections (with_done out) (behind name lines).others)) [
+                ≡ ((at_line line.0 r >>= λ e. entries_in read (behind_named name lines).end left (done ++ e ∷ []) (behind_named name lines).lines) >>= λ out. by_sections (with_done out) (behind_named name lines).others)) [
                   | Ok e ↦ entry-lines lines left (done ++ e ∷ []) (omega arith)
                   | Err kind ↦ refl
                 ])
@@ -167,7 +167,7 @@ module _ (end : ℕ) where
 
       count-lines : (lines : List NumberedLine) → length lines ≤ most
           → by_lines (front_of (Count section) name (with_done [])) lines
-          ≡ (counted_in read some (behind name lines).end (behind name lines).lines >>= λ out. by_sections (with_done out) (behind name lines).others)
+          ≡ (counted_in read some (behind_named name lines).end (behind_named name lines).lines >>= λ out. by_sections (with_done out) (behind_named name lines).others)
       unfolding step count_read end_of
       count-lines [] few = refl
       count-lines (line ∷ lines) few =
@@ -175,11 +175,11 @@ module _ (end : ℕ) where
             | inl ends ↦ rw (ends, count_of-end name line.1 ends) refl
             | inr stays ↦ rw stays (
                 elim (count_of line.1) as (λ r. (at_line line.0 (r >>= λ count. enough section count >> Ok (front_of (Entries section count) name (with_done []))) >>= λ next. by_lines next lines)
-                ≡ ((at_line line.0 r >>= λ count. at_line line.0 (some count) >> entries_in read (behind name lines).end count [] (behind name lines).lines) >>= λ out. by_sections (with_done out) (behind name lines).others)) [
+                ≡ ((at_line line.0 r >>= λ count. at_line line.0 (some count) >> entries_in read (behind_named name lines).end count [] (behind_named name lines).lines) >>= λ out. by_sections (with_done out) (behind_named name lines).others)) [
                   | Err kind ↦ refl
                   | Ok count ↦ rw (same_enough count) (
                       elim (some count) as (λ r. (at_line line.0 (r >> Ok (front_of (Entries section count) name (with_done []))) >>= λ next. by_lines next lines)
-                      ≡ ((at_line line.0 r >> entries_in read (behind name lines).end count [] (behind name lines).lines) >>= λ out. by_sections (with_done out) (behind name lines).others)) [
+                      ≡ ((at_line line.0 r >> entries_in read (behind_named name lines).end count [] (behind_named name lines).lines) >>= λ out. by_sections (with_done out) (behind_named name lines).others)) [
                         | Err kind ↦ refl
                         | Ok done ↦ entry-lines lines count [] (omega arith)
                       ])
@@ -197,13 +197,13 @@ module _ (end : ℕ) where
     names-begin : (header : NumberedLine) (lines : List NumberedLine) (before : List ℕ) (format : Bool) (names : Option (List GroupName)) (nodes : Option (List (ℤ × Coordinates))) (elements : Option (List RawElement))
         → length lines ≤ most
         → (at_line header.0 (names_begun name (front_of Outside before (record { has_format = format; names = names; nodes = nodes; elements = elements }))) >>= λ next. by_lines next lines)
-        ≡ (with_names (section_at header lines) (record { has_format = format; names = names; nodes = nodes; elements = elements }) >>= λ next. by_sections next (behind name lines).others)
+        ≡ (with_names (section_at header lines) (record { has_format = format; names = names; nodes = nodes; elements = elements }) >>= λ next. by_sections next (behind_named name lines).others)
     unfolding names_begun with_names
     names-begin header lines before false names nodes elements few = refl
     names-begin header lines before true (Some names) nodes elements few = refl
     names-begin header lines before true None nodes elements few =
         count-lines Names (λ done. name_of) (λ done. record { has_format = true; names = Some done; nodes = nodes; elements = elements }) (name-reads true nodes elements) any_count (λ count. refl) lines few
-        ∙ sym (bind-bind (counted_in (λ done. name_of) any_count (behind name lines).end (behind name lines).lines) _ _)
+        ∙ sym (bind-bind (counted_in (λ done. name_of) any_count (behind_named name lines).end (behind_named name lines).lines) _ _)
 
     node-reads : (format : Bool) (names : Option (List GroupName)) (elements : Option (List RawElement)) (stand : Stand) (done : List (ℤ × Coordinates)) (line : List ℕ)
         → entry_read Nodes (front_of stand name (record { has_format = format; names = names; nodes = Some done; elements = elements })) line
@@ -220,14 +220,14 @@ module _ (end : ℕ) where
     nodes-begin : (header : NumberedLine) (lines : List NumberedLine) (before : List ℕ) (format : Bool) (names : Option (List GroupName)) (nodes : Option (List (ℤ × Coordinates))) (elements : Option (List RawElement))
         → length lines ≤ most
         → (at_line header.0 (nodes_begun name (front_of Outside before (record { has_format = format; names = names; nodes = nodes; elements = elements }))) >>= λ next. by_lines next lines)
-        ≡ (with_nodes (section_at header lines) (record { has_format = format; names = names; nodes = nodes; elements = elements }) >>= λ next. by_sections next (behind name lines).others)
+        ≡ (with_nodes (section_at header lines) (record { has_format = format; names = names; nodes = nodes; elements = elements }) >>= λ next. by_sections next (behind_named name lines).others)
     unfolding nodes_begun with_nodes
     nodes-begin header lines before false names nodes elements few = refl
     nodes-begin header lines before true names (Some nodes) elements few = refl
     nodes-begin header lines before true names None elements few =
         count-lines Nodes (λ done. node_of (numbers_of_nodes done)) (λ done. record { has_format = true; names = names; nodes = Some done; elements = elements }) (node-reads true names elements)
         (at_least_one NoNodes) (λ count. refl) lines few
-        ∙ sym (bind-bind (counted_in (λ done. node_of (numbers_of_nodes done)) (at_least_one NoNodes) (behind name lines).end (behind name lines).lines) _ _)
+        ∙ sym (bind-bind (counted_in (λ done. node_of (numbers_of_nodes done)) (at_least_one NoNodes) (behind_named name lines).end (behind_named name lines).lines) _ _)
 
     element-joins : (format : Bool) (names : Option (List GroupName)) (nodes : List (ℤ × Coordinates)) (stand : Stand) (done : List RawElement) (element : RawElement)
         → with_element element (front_of stand name (record { has_format = format; names = names; nodes = Some nodes; elements = Some done }))
@@ -252,7 +252,7 @@ module _ (end : ℕ) where
     elements-begin : (header : NumberedLine) (lines : List NumberedLine) (before : List ℕ) (format : Bool) (names : Option (List GroupName)) (nodes : Option (List (ℤ × Coordinates))) (elements : Option (List RawElement))
         → length lines ≤ most
         → (at_line header.0 (elements_begun name (front_of Outside before (record { has_format = format; names = names; nodes = nodes; elements = elements }))) >>= λ next. by_lines next lines)
-        ≡ (with_elements (section_at header lines) (record { has_format = format; names = names; nodes = nodes; elements = elements }) >>= λ next. by_sections next (behind name lines).others)
+        ≡ (with_elements (section_at header lines) (record { has_format = format; names = names; nodes = nodes; elements = elements }) >>= λ next. by_sections next (behind_named name lines).others)
     unfolding elements_begun with_elements
     elements-begin header lines before false names nodes elements few = refl
     elements-begin header lines before true names None elements few = refl
@@ -260,21 +260,21 @@ module _ (end : ℕ) where
     elements-begin header lines before true names (Some nodes) None few =
         count-lines Elements (λ done. element_of (numbers_of_nodes nodes)) (λ done. record { has_format = true; names = names; nodes = Some nodes; elements = Some done }) (element-reads true names nodes)
         (at_least_one NoElements) (λ count. refl) lines few
-        ∙ sym (bind-bind (counted_in (λ done. element_of (numbers_of_nodes nodes)) (at_least_one NoElements) (behind name lines).end (behind name lines).lines) _ _)
+        ∙ sym (bind-bind (counted_in (λ done. element_of (numbers_of_nodes nodes)) (at_least_one NoElements) (behind_named name lines).end (behind_named name lines).lines) _ _)
 
     format-begin : (header : NumberedLine) (lines : List NumberedLine) (before : List ℕ) (format : Bool) (names : Option (List GroupName)) (nodes : Option (List (ℤ × Coordinates))) (elements : Option (List RawElement))
         → length lines ≤ most
         → (at_line header.0 (format_begun name (front_of Outside before (record { has_format = format; names = names; nodes = nodes; elements = elements }))) >>= λ next. by_lines next lines)
-        ≡ (with_format (section_at header lines) (record { has_format = format; names = names; nodes = nodes; elements = elements }) >>= λ next. by_sections next (behind name lines).others)
+        ≡ (with_format (section_at header lines) (record { has_format = format; names = names; nodes = nodes; elements = elements }) >>= λ next. by_sections next (behind_named name lines).others)
     unfolding format_begun with_format
     format-begin header lines before true names nodes elements few = refl
     format-begin header lines before false names nodes elements few =
         format-lines lines (record { has_format = true; names = names; nodes = nodes; elements = elements }) few
-        ∙ sym (then-bind (format_in (behind name lines).end (behind name lines).lines) _ _)
+        ∙ sym (then-bind (format_in (behind_named name lines).end (behind_named name lines).lines) _ _)
 
     -- by the name
     section-begins : (header : NumberedLine) (lines : List NumberedLine) (before : List ℕ) (file : FileRead) → length lines ≤ most
-        → (at_line header.0 (begun name (front_of Outside before file)) >>= λ next. by_lines next lines) ≡ (with_named name (section_at header lines) file >>= λ next. by_sections next (behind name lines).others)
+        → (at_line header.0 (begun name (front_of Outside before file)) >>= λ next. by_lines next lines) ≡ (with_named name (section_at header lines) file >>= λ next. by_sections next (behind_named name lines).others)
     unfolding begun with_named skipped
     section-begins header lines before file few =
         elim (cases_Bool (bytes_eq name (codes "MeshFormat"))) [
@@ -285,7 +285,7 @@ module _ (end : ℕ) where
               | inl nodes ↦ rw nodes (nodes-begin header lines before file.has_format file.names file.nodes file.elements few)
               | inr further ↦ rw further (elim (cases_Bool (bytes_eq name (codes "Elements"))) [
                 | inl elements ↦ rw elements (elements-begin header lines before file.has_format file.names file.nodes file.elements few)
-                | inr none ↦ rw none (skipped-lines lines file few ∙ sym (then-bind (end_line_in (behind name lines).end) (Ok file) _))
+                | inr none ↦ rw none (skipped-lines lines file few ∙ sym (then-bind (end_line_in (behind_named name lines).end) (Ok file) _))
               ])
             ])
           ])

@@ -7,7 +7,7 @@ use Rattle.msh_read.specs.declared.fault.MshKind.{MshKind}
 use Rattle.msh_read.specs.declared.fault.MshKind.TheVariants.{BadLine, NoSuchNode, OtherKind}
 use Rattle.msh_read.specs.declared.raw.RawMark.{RawMark}
 use Rattle.msh_read.specs.declared.raw.RawTet.{RawTet}
-use Rattle.msh_read.specs.Lines.{number_of, is_number, is_tag, natural}
+use Rattle.msh_read.specs.Lines.{number_in_word, is_number, is_tag, natural}
 use Rattle.msh_read.specs.Steps.{◌>>=◌, ◌>>◌, check, or_fault, each}
 
 -- an element is a tetrahedron or a mark
@@ -82,7 +82,7 @@ element_from known numbers = Err BadLine
 
 -- the numbers of a line
 unfoldable pub numbers_of : List ℕ → Result (List ℤ) MshKind
-numbers_of line = each number_of (words_of line)
+numbers_of line = each number_in_word (words_of line)
 
 -- the element that a line has, where the nodes have these numbers
 unfoldable pub element_of : List ℤ → List ℕ → Result RawElement MshKind

@@ -55,7 +55,7 @@ entries_in read end (suc left) before (line ∷ lines) = do
   entry ← at_line line.0 (read before line.1)
   entries_in read end left (before ++ entry ∷ []) lines
 
--- the line of a count that is enough, and as many entries
+-- The line of a count that is enough, and as many entries. A section that ends where its count has to stand has a bad line.
 abbrev pub counted_in : {A : Type 0} → (List A → List ℕ → Result A MshKind) → (ℕ → Result (Unit {0}) MshKind) → SectionEnd → List NumberedLine → Result (List A) MshFault
 counted_in read enough end [] = Err (wanting BadLine end)
 counted_in read enough end (line ∷ lines) = do
@@ -141,7 +141,7 @@ with_sections (section ∷ sections) file = do
   next ← with_section section file
   with_sections sections next
 
--- ---- a mesh_in file
+-- ---- a whole file
 
 -- what a file has to have at its end
 unfoldable pub mesh_in : FileRead → Result Raw MshKind

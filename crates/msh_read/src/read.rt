@@ -3,7 +3,7 @@ ghost use Rattle.std.specs.Prelude.{◌≡◌, ◌≤◌, IfOk};
 ghost use Rattle.std.specs.List.{All};
 ghost use Rattle.std.specs.List.Sorted.{IsStrictlySortedBy};
 ghost use Rattle.ma_text.specs.Lines.{numbered_lines};
-ghost use Rattle.msh_read.specs.Answer.{Answers, Reads};
+ghost use Rattle.msh_read.specs.Answer.{AnswersFile, ReadsMesh};
 ghost use Rattle.msh_read.specs.code_steps.Front.{nothing_read};
 ghost use Rattle.msh_read.specs.GroupNames.{name_cmp};
 ghost use Rattle.msh_read.specs.Reading.{read_of};
@@ -17,7 +17,7 @@ use std::alloc::Global;
 
 /// What the lines that are left say.
 fn front<'a>(alloc: Global, lines: &mut Lines<'a>) -> Result<Front<'a>, MshFault>
-    ensures value { Answers (λ front. front) result (after nothing_read lines.old.lines) }
+    ensures value { AnswersFile (λ front. front) result (after nothing_read lines.old.lines) }
     ensures end { lines.new.end ≡ lines.old.end }
 {
     let mut front = Front::new(alloc);
@@ -31,7 +31,7 @@ fn front<'a>(alloc: Global, lines: &mut Lines<'a>) -> Result<Front<'a>, MshFault
 
 /// The mesh in a file.
 pub fn read_msh(alloc: Global, bytes: &[u8]) -> Result<RawMesh, MshFault>
-    ensures exact { Reads result (read_of bytes.now) }
+    ensures exact { ReadsMesh result (read_of bytes.now) }
     ensures names { IfOk result (λ mesh. IsStrictlySortedBy name_cmp mesh.names.items) }
     ensures dimensions { IfOk result (λ mesh. All (λ name. name.dimension ≤ 3) mesh.names.items) }
 {

@@ -1,4 +1,4 @@
--- Nodes that are item_lines from 1 are found by their numbers.
+-- Nodes that are numbered from 1 are found by their numbers.
 use Rattle.std.proofs.Common.{◌≡◌, ℕ, zero, suc, ◌+◌, ◌-◌, ◌<◌, ◌≤◌, Bool, true, false, not, cond, ◌&&◌, ◌||◌, List, [], ◌∷◌, ◌++◌, length, map, get_or, refl, sym, ap, subst, ◌∙◌, arith, inl, inr, ℤ, pos, int_lt}
 use Rattle.std.specs.Prelude.{Ok}
 use Rattle.std.specs.Cmp.{Equal-is, int_cmp_total, tied_itself}

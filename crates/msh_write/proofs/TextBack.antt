@@ -23,7 +23,7 @@ use Rattle.msh_read.proofs.SectionWise.{read_of-by_lines}
 use Rattle.msh_write.specs.ReadsBack.{raw_mark, raw_tet}
 use Rattle.msh_write.specs.Text.{counted_section, element_line, ended, format_lines, head_lines, mark_element, name_line, names_lines, node_line, item_lines, tet_element}
 use Rattle.msh_write.proofs.ElementSectionBack.{elements-run, is_good_mark, is_good_tet, mark-is_line, tet-is_line}
-use Rattle.msh_write.proofs.EntriesBack.{is_in_range, is_readable, name-is_line, node-is_line}
+use Rattle.msh_write.proofs.EntriesBack.{is_near_place, is_readable, name-is_line, node-is_line}
 use Rattle.msh_write.proofs.LinesBack.{is_line, is_line-line, numbered_lines-ended}
 use Rattle.msh_write.proofs.NodesBack.{numbers_from}
 use Rattle.msh_write.proofs.RunsBack.{run, run-after, run-append}
@@ -57,10 +57,10 @@ names-good [] few all = refl
 names-good (name ∷ names) few all =
     section-lines (codes "PhysicalNames") (map name_line (name ∷ names)) refl refl (omega (arith, length-map (name ∷ names) name_line)) (named-good (name ∷ names) all)
 
-nodes-good : (nodes : List Coordinates) → length nodes ≤ 2147483647 → list_all is_in_range nodes ≡ true → list_all is_line (counted_section (codes "Nodes") (item_lines node_line nodes)) ≡ true
+nodes-good : (nodes : List Coordinates) → length nodes ≤ 2147483647 → list_all is_near_place nodes ≡ true → list_all is_line (counted_section (codes "Nodes") (item_lines node_line nodes)) ≡ true
 nodes-good nodes few near =
     section-lines (codes "Nodes") (item_lines node_line nodes) refl refl (omega (arith, length-item_lines node_line nodes))
-    (item_lines-good node_line is_in_range 2147483647 (λ n p low high ok. node-is_line n p low high ok) 1 nodes (omega arith) (omega arith) near)
+    (item_lines-good node_line is_near_place 2147483647 (λ n p low high ok. node-is_line n p low high ok) 1 nodes (omega arith) (omega arith) near)
 
 -- ---- the names, which may have no section
 
@@ -78,7 +78,7 @@ names-read [] few all = refl
 names-read (name ∷ names) few all = names-run (name ∷ names) few all
 
 module _ (names : List GroupName) (nodes : List Coordinates) (marks : List CellMark) (tets : List Tetrahedron) (few_names : length names < 2 ^ 63) (good_names : list_all is_readable names ≡ true) (some_nodes : 1 ≤ length nodes)
-    (few_nodes : length nodes ≤ 2147483647) (near : list_all is_in_range nodes ≡ true) (some_tets : 1 ≤ length tets) (few_elements : length marks + length tets ≤ 2147483647)
+    (few_nodes : length nodes ≤ 2147483647) (near : list_all is_near_place nodes ≡ true) (some_tets : 1 ≤ length tets) (few_elements : length marks + length tets ≤ 2147483647)
     (good_marks : list_all (is_good_mark nodes) marks ≡ true) (good_tets : list_all (is_good_tet nodes) tets ≡ true) where
   elements-good : list_all is_line (item_lines (element_line nodes) (map (mark_element []) marks ++ map (tet_element []) tets)) ≡ true
   elements-good =

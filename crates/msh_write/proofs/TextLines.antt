@@ -116,7 +116,7 @@ pub ended-map : {X : Type 0} (line : X → List ℕ) (items : List X) → flat_m
 unfolding ended
 ended-map line items = sym (flat_map-map (λ l. l ++ 10 ∷ []) line items)
 
--- items of two kinds that are item_lines through
+-- items of two kinds that are numbered through
 numbered-more : {X Z : Type 0} (line : ℕ → Z → List ℕ) (f : X → Z) (n : ℕ) (xs : List X) (zs : List Z)
     → map (λ e. line e.0 e.1) (enumerate_from n (map f xs ++ zs)) ≡ map (λ e. line e.0 (f e.1)) (enumerate_from n xs) ++ map (λ e. line e.0 e.1) (enumerate_from (n + length xs) zs)
 numbered-more line f n [] zs = let none : n ≡ n + 0 = omega arith in ap (λ k. map (λ e. line e.0 e.1) (enumerate_from k zs)) none

@@ -17,7 +17,7 @@ use Rattle.msh_read.specs.GroupNames.{GroupName}
 abbrev pub line_of : List (List ℕ) → List ℕ
 line_of = join_with_byte 32
 
--- the lines of these items, which are item_lines from 1
+-- the lines of these items, which are numbered from 1
 abbrev pub item_lines : {X : Type 0} → (ℕ → X → List ℕ) → List X → List (List ℕ)
 item_lines line items = map (λ e. line e.0 e.1) (enumerate_from 1 items)
 

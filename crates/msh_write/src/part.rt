@@ -6,7 +6,7 @@ ghost use Rattle.ma_geom.specs.Coordinates.{place_cmp};
 ghost use Rattle.ma_cells.specs.Ascending.{are_ascending};
 ghost use Rattle.ma_cells.specs.Cells.{corners_of, is_cell};
 ghost use Rattle.msh_write.specs.steps.Holders.{holder_cmp, holder_element, holder_tags};
-ghost use Rattle.msh_write.specs.PartText.{member_element, part_text, resident_element, resident_tags, tets_of};
+ghost use Rattle.msh_write.specs.PartText.{member_element, part_text, resident_element, resident_tags, tets_of_members};
 ghost use Rattle.msh_write.specs.Text.{counted_section, element_line, ended, nodes_of, item_lines};
 
 use crate::elements::{put_cell, put_tet, tagged};
@@ -64,7 +64,7 @@ fn put_members(
 ) -> Result<(), Memory>
     requires few { before < 2 ^ 63 }
     requires rises { IsStrictlySortedBy place_cmp nodes.now }
-    requires nodes { nodes.now ≡ nodes_of (tets_of members.now) }
+    requires nodes { nodes.now ≡ nodes_of (tets_of_members members.now) }
     ensures { OnOk result (out.new.items ≡ out.old.items ++ ended (item_lines (λ number member. element_line nodes.now (before + number) (member_element part member)) members.now)) }
 {
     for (index, member) in members.iter().enumerate() {
@@ -193,7 +193,7 @@ fn put_elements(
     marks: &[Mark],
 ) -> Result<(), Memory>
     requires rises { IsStrictlySortedBy place_cmp nodes.now }
-    requires nodes { nodes.now ≡ nodes_of (tets_of members.now) }
+    requires nodes { nodes.now ≡ nodes_of (tets_of_members members.now) }
     requires corners { All (λ m. are_ascending place_cmp m.0.corners ≡ true) members.now }
     ensures { OnOk result (out.new.items ≡ out.old.items ++ ended (counted_section (codes "Elements") (item_lines (element_line nodes.now) (map (resident_element part members.now) marks.now ++ map (member_element part) members.now)))) }
 {
