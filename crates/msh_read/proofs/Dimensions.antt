@@ -19,8 +19,8 @@ second true b e = e
 second false b e = absurd (cc)
 
 -- one more name
-pub kept : (names : List GroupName) (name : GroupName) → list_all has_dimension names ≡ true → has_dimension name ≡ true → list_all has_dimension (names ++ name ∷ []) ≡ true
-kept names name all one = list_all-append has_dimension names (name ∷ []) ∙ and_from _ _ all (and_from _ _ one refl)
+pub dimensions_kept : (names : List GroupName) (name : GroupName) → list_all has_dimension names ≡ true → has_dimension name ≡ true → list_all has_dimension (names ++ name ∷ []) ≡ true
+dimensions_kept names name all one = list_all-append has_dimension names (name ∷ []) ∙ and_from _ _ all (and_from _ _ one refl)
 
 module _ {K : Type 0} (R : K → K → Ordering) (p : K → Bool) where
   all_put : (x : K) (ys : List K) → p x ≡ true → list_all p ys ≡ true → list_all p (put R x ys) ≡ true

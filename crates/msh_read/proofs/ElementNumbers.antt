@@ -7,7 +7,7 @@ use Rattle.msh_read.specs.declared.fault.Fault.{Fault}
 use Rattle.msh_read.specs.declared.fault.Fault.TheVariants.{Kind, NoMemory}
 use Rattle.msh_read.specs.declared.fault.MshKind.{MshKind}
 use Rattle.msh_read.specs.declared.fault.MshKind.TheVariants.{NoSuchNode}
-use Rattle.msh_read.specs.Answer.{Fails}
+use Rattle.msh_read.specs.code_steps.LineAnswers.{Fails}
 use Rattle.msh_read.specs.ElementLines.{position_of, element_at, element_from}
 use Rattle.msh_read.specs.Lines.{is_number, natural}
 use Rattle.msh_read.specs.Steps.{each, or_fault}
@@ -28,10 +28,10 @@ walks_on read front xs i y total within ok so_far =
     each_on read front (get_or xs i (pos 0)) (drop (i + 1) xs) y total ok (ap (λ ys. behind front (each read ys)) (sym (next xs i within)) ∙ so_far)
 
 -- the step at which it stops
-pub stops : {B : Type 0} (read : ℤ → Result B MshKind) (fault : Fault) (front : List B) (xs : List ℤ) (i : ℕ) (total : Result (List B) MshKind) → i < length xs → Fails fault (read (get_or xs i (pos 0)))
+pub walk_stops : {B : Type 0} (read : ℤ → Result B MshKind) (fault : Fault) (front : List B) (xs : List ℤ) (i : ℕ) (total : Result (List B) MshKind) → i < length xs → Fails fault (read (get_or xs i (pos 0)))
     → behind front (each read (drop i xs)) ≡ total → Fails fault total
-stops read NoMemory front xs i total within err so_far = tt
-stops read (Kind kind) front xs i total within err so_far =
+walk_stops read NoMemory front xs i total within err so_far = tt
+walk_stops read (Kind kind) front xs i total within err so_far =
     each_stops read front (get_or xs i (pos 0)) (drop (i + 1) xs) kind total err (ap (λ ys. behind front (each read ys)) (sym (next xs i within)) ∙ so_far)
 
 -- three numbers or more

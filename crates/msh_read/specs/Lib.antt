@@ -1,6 +1,5 @@
 pub mod Answer
 pub mod ElementLines
-pub mod Front
 pub mod GroupNames
 pub mod Lines
 pub mod NameLines
@@ -9,3 +8,4 @@ pub mod Raw
 pub mod Reading
 pub mod Sections
 pub mod Steps
+pub mod code_steps

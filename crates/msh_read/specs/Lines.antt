@@ -33,8 +33,8 @@ or_bad_line (Ok x) = Ok x
 or_bad_line (Err fault) = Err BadLine
 
 -- the number that a word writes
-unfoldable pub number_of : List ℕ → Result ℤ MshKind
-number_of word = or_bad_line (digits_of word)
+unfoldable pub number_in_word : List ℕ → Result ℤ MshKind
+number_in_word word = or_bad_line (digits_of word)
 
 -- from -2^31 to 2^31 - 1
 abbrev pub is_tag : ℤ → Bool
@@ -88,5 +88,5 @@ format_of line = do
 unfoldable pub count_of : List ℕ → Result ℕ MshKind
 count_of line = do
   word ← or_fault BadLine (one_of (words_of line))
-  number ← number_of word
+  number ← number_in_word word
   or_fault BadLine (natural number)

@@ -6,7 +6,7 @@ use Rattle.ma_text.specs.Words.{cut_word}
 use Rattle.msh_read.specs.declared.fault.MshKind.{MshKind}
 use Rattle.msh_read.specs.declared.fault.MshKind.TheVariants.{BadLine}
 use Rattle.msh_read.specs.GroupNames.{GroupName}
-use Rattle.msh_read.specs.Lines.{number_of, is_tag, natural}
+use Rattle.msh_read.specs.Lines.{number_in_word, is_tag, natural}
 use Rattle.msh_read.specs.Steps.{◌>>=◌, ◌>>◌, check, or_fault}
 
 -- '"'
@@ -22,8 +22,8 @@ abbrev pub cut_at_quote : List ℕ → Option (List ℕ × List ℕ)
 cut_at_quote bytes = option_map (cut_around bytes) (position is_quote bytes)
 
 -- the text between two '"', where nothing but blanks stands before and behind them
-unfoldable pub text_of : List ℕ → Result (List ℕ) MshKind
-text_of bytes = do
+unfoldable pub quoted_text : List ℕ → Result (List ℕ) MshKind
+quoted_text bytes = do
   opened ← or_fault BadLine (cut_at_quote bytes)
   closed ← or_fault BadLine (cut_at_quote opened.1)
   check BadLine (is_blank_line opened.0 && is_blank_line closed.1)
@@ -33,14 +33,14 @@ text_of bytes = do
 unfoldable pub number_in_front : List ℕ → Result (ℤ × List ℕ) MshKind
 number_in_front bytes = do
   cut ← or_fault BadLine (cut_word bytes)
-  number ← number_of cut.0
+  number ← number_in_word cut.0
   Ok (number, cut.1)
 
 unfoldable pub name_of : List ℕ → Result GroupName MshKind
 name_of line = do
   first ← number_in_front line
   second ← number_in_front first.1
-  text ← text_of second.1
+  text ← quoted_text second.1
   dimension ← or_fault BadLine (natural first.0)
   check BadLine (nat_le dimension 3)
   check BadLine (is_tag second.0)

@@ -9,21 +9,21 @@ use Rattle.ma_text.specs.Numbers.{whole_of}
 use Rattle.ma_text.specs.Words.{words_of}
 use Rattle.msh_read.specs.declared.fault.MshKind.{MshKind}
 use Rattle.msh_read.specs.declared.fault.MshKind.TheVariants.{BadLine, NodeTwice, NotWhole, OutOfRange}
-use Rattle.msh_read.specs.Lines.{four_of, number_of, is_number}
+use Rattle.msh_read.specs.Lines.{four_of, number_in_word, is_number}
 use Rattle.msh_read.specs.Steps.{◌>>=◌, ◌>>◌, check, or_fault}
 
 -- a coordinate is at most 2^30 in absolute value
-abbrev pub in_range : Result ℤ NumberFault → Result ℤ MshKind
-in_range (Ok value) = if nat_le (unsigned_abs value) limit then Ok value else Err OutOfRange
-in_range (Err TooBig) = Err OutOfRange
-in_range (Err NoWhole) = Err NotWhole
-in_range (Err Empty) = Err NotWhole
+abbrev pub coordinate_within : Result ℤ NumberFault → Result ℤ MshKind
+coordinate_within (Ok value) = if nat_le (unsigned_abs value) limit then Ok value else Err OutOfRange
+coordinate_within (Err TooBig) = Err OutOfRange
+coordinate_within (Err NoWhole) = Err NotWhole
+coordinate_within (Err Empty) = Err NotWhole
 
 unfoldable pub coordinate_of : List ℕ → Result ℤ MshKind
-coordinate_of word = in_range (whole_of word)
+coordinate_of word = coordinate_within (whole_of word)
 
-unfoldable pub place_of : List ℕ → List ℕ → List ℕ → Result Coordinates MshKind
-place_of first second third = do
+unfoldable pub place_in_words : List ℕ → List ℕ → List ℕ → Result Coordinates MshKind
+place_in_words first second third = do
   x ← coordinate_of first
   y ← coordinate_of second
   z ← coordinate_of third
@@ -37,8 +37,8 @@ is_used used number = list_any (int_eq number) used
 unfoldable pub node_of : List ℤ → List ℕ → Result (ℤ × Coordinates) MshKind
 node_of used line = do
   words ← or_fault BadLine (four_of (words_of line))
-  number ← number_of words.0
+  number ← number_in_word words.0
   check BadLine (is_number number)
   check NodeTwice (not (is_used used number))
-  place ← place_of words.1 words.2 words.3
+  place ← place_in_words words.1 words.2 words.3
   Ok (number, place)

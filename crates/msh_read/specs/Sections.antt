@@ -1,148 +1,45 @@
--- How a line goes on from the lines before it, by where it stands.
-use Rattle.std.specs.Prelude.{ℕ, ◌-◌, true, not, ◌==◌, if◌then◌else◌, codes, List, [], ◌∷◌, ◌++◌, Result, Ok}
-use Rattle.std.specs.Str.{bytes_eq}
-use Rattle.msh_read.specs.declared.entry.Entry.{Entry}
-use Rattle.msh_read.specs.declared.entry.Entry.TheVariants.{Tet, Mark}
+-- A file's lines cut into sections.
+use Rattle.std.specs.Prelude.{ℕ, Bool, true, false, if◌then◌else◌, List, [], ◌∷◌, Result, Ok, Err}
+use Rattle.msh_read.specs.Lines.{closes, header_of}
 use Rattle.msh_read.specs.declared.fault.MshKind.{MshKind}
-use Rattle.msh_read.specs.declared.fault.MshKind.TheVariants.{NoFormat, BadLine, BadCount, NoNodes, NoElements}
-use Rattle.msh_read.specs.declared.stand.Section.{Section}
-use Rattle.msh_read.specs.declared.stand.Section.TheVariants.{Names, Nodes, Elements}
-use Rattle.msh_read.specs.declared.stand.Stand.{Stand}
-use Rattle.msh_read.specs.declared.stand.Stand.TheVariants.{Outside, Skipped, Format, FormatEnd, Count, Entries}
-use Rattle.msh_read.specs.ElementLines.{element_of}
-use Rattle.msh_read.specs.Front.{Front}
-use Rattle.msh_read.specs.Lines.{header_of, closes, format_of, count_of}
-use Rattle.msh_read.specs.NameLines.{name_of}
-use Rattle.msh_read.specs.NodeLines.{node_of}
-use Rattle.msh_read.specs.Steps.{◌>>=◌, ◌>>◌, check}
 
--- ---- headers
+-- a line that isn't blank, with its number
+abbrev pub NumberedLine : Type 0
+NumberedLine = ℕ × List ℕ
 
-abbrev pub begin : Stand → List ℕ → Front → Front
-begin stand name front = record front { stand = stand; header = name }
+-- Where a section ends: the number of the line '$EndNAME', or, where there is no such line, that of the file's end.
+pub record SectionEnd : Type 0 where
+  pub at : ℕ
+  pub is_written : Bool
 
--- '$MeshFormat' stands once, and before the three others
-unfoldable pub format_begun : List ℕ → Front → Result Front MshKind
-format_begun name front = do
-  check BadLine (not front.has_format)
-  Ok (begin Format name (record front { has_format = true }))
+-- A section: its header, the lines behind the header, and the end.
+pub record Section : Type 0 where
+  pub header : NumberedLine
+  pub lines : List NumberedLine
+  pub end : SectionEnd
 
-unfoldable pub names_begun : List ℕ → Front → Result Front MshKind
-names_begun name front = do
-  check NoFormat front.has_format
-  check BadLine (not front.has_names)
-  Ok (begin (Count Names) name (record front { has_names = true }))
+-- What stands behind a header: the lines of its section, the end, and further sections.
+pub record BehindHeader : Type 0 where
+  pub lines : List NumberedLine
+  pub end : SectionEnd
+  pub others : List Section
 
-unfoldable pub nodes_begun : List ℕ → Front → Result Front MshKind
-nodes_begun name front = do
-  check NoFormat front.has_format
-  check BadLine (not front.has_nodes)
-  Ok (begin (Count Nodes) name (record front { has_nodes = true }))
+-- whether a line ends the section with this name, if a header has given it one
+abbrev pub ends_section : Result (List ℕ) MshKind → List ℕ → Bool
+ends_section (Ok name) line = closes name line
+ends_section (Err kind) line = false
 
--- '$Elements' stands behind '$Nodes'
-unfoldable pub elements_begun : List ℕ → Front → Result Front MshKind
-elements_begun name front = do
-  check NoFormat front.has_format
-  check NoNodes front.has_nodes
-  check BadLine (not front.has_elements)
-  Ok (begin (Count Elements) name (record front { has_elements = true }))
+abbrev mutual
+  -- The sections of a file, or of what is behind a section's end, where the file's end has the number. The first line is
+  -- a header, whatever it says, and its section goes to the first line that ends it.
+  pub sections_of : ℕ → List NumberedLine → List Section
+  sections_of end [] = []
+  sections_of end (header ∷ lines) =
+      let behind = behind_header end (header_of header.1) lines in
+      record { header = header; lines = behind.lines; end = behind.end } ∷ behind.others
 
--- the section of this name begins; one of any other name is skipped
-unfoldable pub begun : List ℕ → Front → Result Front MshKind
-begun name front =
-    if bytes_eq name (codes "MeshFormat") then format_begun name front
-    else (if bytes_eq name (codes "PhysicalNames") then names_begun name front
-    else (if bytes_eq name (codes "Nodes") then nodes_begun name front
-    else (if bytes_eq name (codes "Elements") then elements_begun name front
-    else Ok (begin Skipped name front))))
-
-unfoldable pub header_read : Front → List ℕ → Result Front MshKind
-header_read front line = do
-  name ← header_of line
-  begun name front
-
--- ---- the lines of a section
-
-abbrev pub at : Stand → Front → Front
-at stand front = record front { stand = stand }
-
-unfoldable pub skipped_read : Front → List ℕ → Result Front MshKind
-skipped_read front line = Ok (if closes front.header line then at Outside front else front)
-
-unfoldable pub format_read : Front → List ℕ → Result Front MshKind
-format_read front line = do
-  format_of line
-  Ok (at FormatEnd front)
-
-unfoldable pub format_end_read : Front → List ℕ → Result Front MshKind
-format_end_read front line = do
-  check BadLine (closes front.header line)
-  Ok (at Outside front)
-
--- why a section has to have an entry, if it has to
-abbrev pub enough : Section → ℕ → Result (Unit {0}) MshKind
-enough Names count = Ok tt
-enough Nodes count = check NoNodes (not (count == 0))
-enough Elements count = check NoElements (not (count == 0))
-
-unfoldable pub count_read : Section → Front → List ℕ → Result Front MshKind
-count_read section front line = do
-  count ← count_of line
-  enough section count
-  Ok (at (Entries section count) front)
-
-abbrev pub with_entry : Entry → Front → Front
-with_entry (Tet tet) front = record front { tets = front.tets ++ tet ∷ [] }
-with_entry (Mark mark) front = record front { marks = front.marks ++ mark ∷ [] }
-
-unfoldable pub name_read : Front → List ℕ → Result Front MshKind
-name_read front line = do
-  name ← name_of line
-  Ok (record front { names = front.names ++ name ∷ [] })
-
-unfoldable pub node_read : Front → List ℕ → Result Front MshKind
-node_read front line = do
-  node ← node_of front.numbers line
-  Ok (record front { numbers = front.numbers ++ node.0 ∷ []; nodes = front.nodes ++ node.1 ∷ [] })
-
-unfoldable pub element_read : Front → List ℕ → Result Front MshKind
-element_read front line = do
-  entry ← element_of front.numbers line
-  Ok (with_entry entry front)
-
-abbrev pub entry_read : Section → Front → List ℕ → Result Front MshKind
-entry_read Names front line = name_read front line
-entry_read Nodes front line = node_read front line
-entry_read Elements front line = element_read front line
-
--- a section's end, where no entry is left
-unfoldable pub end_read : ℕ → Front → Result Front MshKind
-end_read left front = do
-  check BadCount (left == 0)
-  Ok (at Outside front)
-
--- one of the entries that are left
-unfoldable pub next_read : Section → ℕ → Front → List ℕ → Result Front MshKind
-next_read section left front line = do
-  check BadCount (not (left == 0))
-  after ← entry_read section front line
-  Ok (at (Entries section (left - 1)) after)
-
-unfoldable pub counted_read : Section → ℕ → Front → List ℕ → Result Front MshKind
-counted_read section left front line =
-    if closes front.header line then end_read left front
-    else next_read section left front line
-
--- ---- any line
-
-abbrev pub read_at : Stand → Front → List ℕ → Result Front MshKind
-read_at Outside front line = header_read front line
-read_at Skipped front line = skipped_read front line
-read_at Format front line = format_read front line
-read_at FormatEnd front line = format_end_read front line
-read_at (Count section) front line = count_read section front line
-read_at (Entries section left) front line = counted_read section left front line
-
--- the front with the line that comes next
-unfoldable pub step : Front → List ℕ → Result Front MshKind
-step front line = read_at front.stand front line
+  pub behind_header : ℕ → Result (List ℕ) MshKind → List NumberedLine → BehindHeader
+  behind_header end name [] = record { lines = []; end = record { at = end; is_written = false }; others = [] }
+  behind_header end name (line ∷ lines) =
+      if ends_section name line.1 then record { lines = []; end = record { at = line.0; is_written = true }; others = sections_of end lines }
+      else (let behind = behind_header end name lines in record behind { lines = line ∷ behind.lines })

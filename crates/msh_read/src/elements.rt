@@ -1,8 +1,8 @@
 // Lines of `$Elements`.
 ghost use Rattle.std.specs.Prelude.{◌≡◌, ◌≢◌, ◌≤◌, ◌<◌, ◌^◌, IfSome, IfOk, length, true};
 ghost use Rattle.std.specs.List.{list_all};
-ghost use Rattle.msh_read.specs.Answer.{Gives};
-ghost use Rattle.msh_read.specs.ElementLines.{are_different, element_at, element_by, element_from, element_of, entry_of, nodes_of_kind, numbers_of, position_of, positions_of, tag_of};
+ghost use Rattle.msh_read.specs.code_steps.LineAnswers.{Gives, element_seen};
+ghost use Rattle.msh_read.specs.ElementLines.{are_different, element_at, element_by, element_from, element_of, element_with, nodes_of_kind, numbers_of, position_of, positions_of, tag_of};
 ghost use Rattle.msh_read.specs.Lines.{is_tag};
 ghost use Rattle.msh_read.specs.Steps.{each};
 
@@ -116,7 +116,7 @@ fn fewer(at: &[u32]) -> ArrayVec<u32, 3>
 fn entry(tags: &[i64], at: &[u32]) -> Entry
     requires tags_fit { list_all is_tag tags.now ≡ true }
     requires few { length at.now ≤ 4 }
-    ensures { result ≡ entry_of tags.now at.now }
+    ensures { element_seen result ≡ element_with tags.now at.now }
 {
     let phys = tag(tags, 0);
     let elem = tag(tags, 1);
@@ -133,7 +133,7 @@ fn entry(tags: &[i64], at: &[u32]) -> Entry
 #[tactic(auto, unfolding(crate::specs::ElementLines::element_by))]
 fn element_by(known: &IndexSet<i64>, tags: &[i64], nodes: &[i64]) -> Result<Entry, Fault>
     requires { length nodes.now ≤ 4 }
-    ensures { Gives (λ entry. entry) result (element_by known.now.keys tags.now nodes.now) }
+    ensures { Gives element_seen result (element_by known.now.keys tags.now nodes.now) }
 {
     if !are_tags(tags) {
         return Err(Fault::Kind(MshKind::BadLine));
@@ -146,7 +146,7 @@ fn element_by(known: &IndexSet<i64>, tags: &[i64], nodes: &[i64]) -> Result<Entr
 #[tactic(auto, unfolding(crate::specs::ElementLines::element_at))]
 fn element_at(known: &IndexSet<i64>, kind: i64, tags: u64, numbers: &[i64]) -> Result<Entry, Fault>
     requires { tags < 2 ^ 63 }
-    ensures { Gives (λ entry. entry) result (element_at known.now.keys kind tags numbers.now) }
+    ensures { Gives element_seen result (element_at known.now.keys kind tags numbers.now) }
 {
     let nodes = nodes_of_kind(kind).ok_or(MshKind::OtherKind(kind))?;
     if numbers.len() as u64 != tags + nodes {
@@ -158,7 +158,7 @@ fn element_at(known: &IndexSet<i64>, kind: i64, tags: u64, numbers: &[i64]) -> R
 
 /// An element by the numbers of its line.
 fn element_from(known: &IndexSet<i64>, numbers: &[i64]) -> Result<Entry, Fault>
-    ensures { Gives (λ entry. entry) result (element_from known.now.keys numbers.now) }
+    ensures { Gives element_seen result (element_from known.now.keys numbers.now) }
 {
     match numbers {
         [number, kind, tags, rest @ ..] => {
@@ -188,7 +188,7 @@ fn read_numbers(numbers: &mut Vec<i64>, line: &[u8]) -> Result<(), Fault>
 /// The element in a line. Its numbers are put into `numbers`.
 #[tactic(auto, unfolding(crate::specs::ElementLines::element_of))]
 pub fn element(known: &IndexSet<i64>, numbers: &mut Vec<i64>, line: &[u8]) -> Result<Entry, Fault>
-    ensures { Gives (λ entry. entry) result (element_of known.now.keys line.now) }
+    ensures { Gives element_seen result (element_of known.now.keys line.now) }
 {
     read_numbers(numbers, line)?;
     element_from(known, numbers.as_slice())

@@ -3,12 +3,12 @@ ghost use Rattle.std.specs.Prelude.{◌≡◌, ◌≤◌, IfOk, OnOk, true};
 ghost use Rattle.std.specs.List.{All, list_all};
 ghost use Rattle.std.specs.List.Sorted.{IsStrictlySortedBy};
 ghost use Rattle.ma_cells.specs.Ascending.{ascending_of};
-ghost use Rattle.msh_read.specs.Answer.{Gives};
-ghost use Rattle.msh_read.specs.Front.{nothing_read};
+ghost use Rattle.msh_read.specs.code_steps.LineAnswers.{Gives, element_seen};
+ghost use Rattle.msh_read.specs.code_steps.Front.{nothing_read};
 ghost use Rattle.msh_read.specs.GroupNames.{has_dimension, name_cmp};
 ghost use Rattle.msh_read.specs.Raw.{raw};
-ghost use Rattle.msh_read.specs.Reading.{end_of, is_outside, may_end, mesh_of};
-ghost use Rattle.msh_read.specs.Sections.{at, begin, begun, count_read, counted_read, element_read, elements_begun, end_read, entry_read, enough, format_begun, format_end_read, format_read, header_read, name_read, names_begun, next_read, node_read, nodes_begun, skipped_read, step, with_entry};
+ghost use Rattle.msh_read.specs.code_steps.LinesRead.{end_of, is_outside, may_end, mesh_said};
+ghost use Rattle.msh_read.specs.code_steps.LineByLine.{at, begin, begun, count_read, counted_read, element_read, elements_begun, end_read, entry_read, enough, format_begun, format_end_read, format_read, header_read, name_read, names_begun, next_read, node_read, nodes_begun, skipped_read, step, with_element};
 
 use crate::elements::element;
 use crate::entry::Entry;
@@ -17,7 +17,7 @@ use crate::lines::{closes, count, format, header};
 use crate::name_lines::name;
 use crate::node_lines::{add_number, node};
 use crate::raw::{Name, RawMark, RawMesh, RawTet};
-use crate::stand::{Section, Stand};
+use crate::stand::{Counted, Stand};
 use indexmap::IndexSet;
 use ma_cells::Ascending;
 use ma_geom::{Memory, Place};
@@ -49,7 +49,7 @@ pub struct Front<'a> {
 impl<'a> Model for Front<'a> {
     ghost use Rattle.std.specs.Prelude.{◌≡◌, true};
     ghost use Rattle.std.specs.List.{list_all};
-    ghost use Rattle.msh_read.specs.Front.{Front as Read};
+    ghost use Rattle.msh_read.specs.code_steps.Front.{Front as Read};
     ghost use Rattle.msh_read.specs.GroupNames.{has_dimension};
 
     ghost Value = { Read };
@@ -99,7 +99,7 @@ impl<'a> Front<'a> {
         self.header = name;
     }
 
-    #[tactic(auto, unfolding(crate::specs::Sections::format_begun))]
+    #[tactic(auto, unfolding(crate::specs::code_steps::LineByLine::format_begun))]
     fn begin_format(&mut self, name: &'a [u8]) -> Result<(), Fault>
         ensures { Gives (λ _. self.new) result (format_begun name.entry.now self.old) }
     {
@@ -111,7 +111,7 @@ impl<'a> Front<'a> {
         Ok(())
     }
 
-    #[tactic(auto, unfolding(crate::specs::Sections::names_begun))]
+    #[tactic(auto, unfolding(crate::specs::code_steps::LineByLine::names_begun))]
     fn begin_names(&mut self, name: &'a [u8]) -> Result<(), Fault>
         ensures { Gives (λ _. self.new) result (names_begun name.entry.now self.old) }
     {
@@ -122,11 +122,11 @@ impl<'a> Front<'a> {
             return Err(Fault::Kind(MshKind::BadLine));
         }
         self.has_names = true;
-        self.begin(Stand::Count(Section::Names), name);
+        self.begin(Stand::Count(Counted::Names), name);
         Ok(())
     }
 
-    #[tactic(auto, unfolding(crate::specs::Sections::nodes_begun))]
+    #[tactic(auto, unfolding(crate::specs::code_steps::LineByLine::nodes_begun))]
     fn begin_nodes(&mut self, name: &'a [u8]) -> Result<(), Fault>
         ensures { Gives (λ _. self.new) result (nodes_begun name.entry.now self.old) }
     {
@@ -137,11 +137,11 @@ impl<'a> Front<'a> {
             return Err(Fault::Kind(MshKind::BadLine));
         }
         self.has_nodes = true;
-        self.begin(Stand::Count(Section::Nodes), name);
+        self.begin(Stand::Count(Counted::Nodes), name);
         Ok(())
     }
 
-    #[tactic(auto, unfolding(crate::specs::Sections::elements_begun))]
+    #[tactic(auto, unfolding(crate::specs::code_steps::LineByLine::elements_begun))]
     fn begin_elements(&mut self, name: &'a [u8]) -> Result<(), Fault>
         ensures { Gives (λ _. self.new) result (elements_begun name.entry.now self.old) }
     {
@@ -155,11 +155,11 @@ impl<'a> Front<'a> {
             return Err(Fault::Kind(MshKind::BadLine));
         }
         self.has_elements = true;
-        self.begin(Stand::Count(Section::Elements), name);
+        self.begin(Stand::Count(Counted::Elements), name);
         Ok(())
     }
 
-    #[tactic(auto, unfolding(crate::specs::Sections::begun))]
+    #[tactic(auto, unfolding(crate::specs::code_steps::LineByLine::begun))]
     fn begin_section(&mut self, name: &'a [u8]) -> Result<(), Fault>
         ensures { Gives (λ _. self.new) result (begun name.entry.now self.old) }
     {
@@ -177,7 +177,7 @@ impl<'a> Front<'a> {
         }
     }
 
-    #[tactic(auto, unfolding(crate::specs::Sections::header_read))]
+    #[tactic(auto, unfolding(crate::specs::code_steps::LineByLine::header_read))]
     fn read_header(&mut self, line: &'a [u8]) -> Result<(), Fault>
         ensures { Gives (λ _. self.new) result (header_read self.old line.entry.now) }
     {
@@ -187,7 +187,7 @@ impl<'a> Front<'a> {
         }
     }
 
-    #[tactic(auto, unfolding(crate::specs::Sections::skipped_read))]
+    #[tactic(auto, unfolding(crate::specs::code_steps::LineByLine::skipped_read))]
     fn read_skipped(&mut self, line: &[u8])
         ensures { skipped_read self.old line.now ≡ Ok self.new }
     {
@@ -196,7 +196,7 @@ impl<'a> Front<'a> {
         }
     }
 
-    #[tactic(auto, unfolding(crate::specs::Sections::format_read))]
+    #[tactic(auto, unfolding(crate::specs::code_steps::LineByLine::format_read))]
     fn read_format(&mut self, line: &[u8]) -> Result<(), Fault>
         ensures { Gives (λ _. self.new) result (format_read self.old line.now) }
     {
@@ -209,7 +209,7 @@ impl<'a> Front<'a> {
         }
     }
 
-    #[tactic(auto, unfolding(crate::specs::Sections::format_end_read))]
+    #[tactic(auto, unfolding(crate::specs::code_steps::LineByLine::format_end_read))]
     fn read_format_end(&mut self, line: &[u8]) -> Result<(), Fault>
         ensures { Gives (λ _. self.new) result (format_end_read self.old line.now) }
     {
@@ -221,8 +221,8 @@ impl<'a> Front<'a> {
         }
     }
 
-    #[tactic(auto, unfolding(crate::specs::Sections::count_read))]
-    fn read_count(&mut self, section: Section, line: &[u8]) -> Result<(), Fault>
+    #[tactic(auto, unfolding(crate::specs::code_steps::LineByLine::count_read))]
+    fn read_count(&mut self, section: Counted, line: &[u8]) -> Result<(), Fault>
         ensures { Gives (λ _. self.new) result (count_read section self.old line.now) }
     {
         let count = count(line)?;
@@ -231,7 +231,7 @@ impl<'a> Front<'a> {
         Ok(())
     }
 
-    #[tactic(auto, using(crate::proofs::Dimensions::kept), unfolding(crate::specs::Sections::name_read))]
+    #[tactic(auto, using(crate::proofs::Dimensions::dimensions_kept), unfolding(crate::specs::code_steps::LineByLine::name_read))]
     fn read_name(&mut self, line: &[u8]) -> Result<(), Fault>
         ensures { Gives (λ _. self.new) result (name_read self.old line.now) }
     {
@@ -240,7 +240,7 @@ impl<'a> Front<'a> {
         Ok(())
     }
 
-    #[tactic(auto, unfolding(crate::specs::Sections::node_read))]
+    #[tactic(auto, unfolding(crate::specs::code_steps::LineByLine::node_read))]
     fn read_node(&mut self, line: &[u8]) -> Result<(), Fault>
         ensures { Gives (λ _. self.new) result (node_read self.old line.now) }
     {
@@ -251,7 +251,7 @@ impl<'a> Front<'a> {
     }
 
     fn push(&mut self, entry: Entry) -> Result<(), Memory>
-        ensures { OnOk result (self.new ≡ with_entry entry self.old) }
+        ensures { OnOk result (self.new ≡ with_element (element_seen entry) self.old) }
     {
         match entry {
             Entry::Tet(tet) => self.tets.push(tet)?,
@@ -260,7 +260,7 @@ impl<'a> Front<'a> {
         Ok(())
     }
 
-    #[tactic(auto, unfolding(crate::specs::Sections::element_read))]
+    #[tactic(auto, unfolding(crate::specs::code_steps::LineByLine::element_read))]
     fn read_element(&mut self, line: &[u8]) -> Result<(), Fault>
         ensures { Gives (λ _. self.new) result (element_read self.old line.now) }
     {
@@ -269,17 +269,17 @@ impl<'a> Front<'a> {
         Ok(())
     }
 
-    fn read_entry(&mut self, section: Section, line: &[u8]) -> Result<(), Fault>
+    fn read_entry(&mut self, section: Counted, line: &[u8]) -> Result<(), Fault>
         ensures { Gives (λ _. self.new) result (entry_read section self.old line.now) }
     {
         match section {
-            Section::Names => self.read_name(line),
-            Section::Nodes => self.read_node(line),
-            Section::Elements => self.read_element(line),
+            Counted::Names => self.read_name(line),
+            Counted::Nodes => self.read_node(line),
+            Counted::Elements => self.read_element(line),
         }
     }
 
-    #[tactic(auto, unfolding(crate::specs::Sections::end_read))]
+    #[tactic(auto, unfolding(crate::specs::code_steps::LineByLine::end_read))]
     fn read_end(&mut self, left: u64) -> Result<(), Fault>
         ensures { Gives (λ _. self.new) result (end_read left self.old) }
     {
@@ -290,8 +290,8 @@ impl<'a> Front<'a> {
         Ok(())
     }
 
-    #[tactic(auto, unfolding(crate::specs::Sections::next_read))]
-    fn read_next(&mut self, section: Section, left: u64, line: &[u8]) -> Result<(), Fault>
+    #[tactic(auto, unfolding(crate::specs::code_steps::LineByLine::next_read))]
+    fn read_next(&mut self, section: Counted, left: u64, line: &[u8]) -> Result<(), Fault>
         ensures { Gives (λ _. self.new) result (next_read section left self.old line.now) }
     {
         if left == 0 {
@@ -302,8 +302,8 @@ impl<'a> Front<'a> {
         Ok(())
     }
 
-    #[tactic(auto, unfolding(crate::specs::Sections::counted_read))]
-    fn read_counted(&mut self, section: Section, left: u64, line: &[u8]) -> Result<(), Fault>
+    #[tactic(auto, unfolding(crate::specs::code_steps::LineByLine::counted_read))]
+    fn read_counted(&mut self, section: Counted, left: u64, line: &[u8]) -> Result<(), Fault>
         ensures { Gives (λ _. self.new) result (counted_read section left self.old line.now) }
     {
         if closes(self.header, line) {
@@ -314,7 +314,7 @@ impl<'a> Front<'a> {
     }
 
     /// Reads the line that comes next.
-    #[tactic(auto, unfolding(crate::specs::Sections::step))]
+    #[tactic(auto, unfolding(crate::specs::code_steps::LineByLine::step))]
     pub fn step(&mut self, line: &'a [u8]) -> Result<(), Fault>
         ensures { Gives (λ _. self.new) result (step self.old line.entry.now) }
     {
@@ -355,7 +355,7 @@ impl<'a> Front<'a> {
     }
 
     fn into_mesh(self) -> RawMesh
-        ensures value { raw result ≡ mesh_of self.entry }
+        ensures value { raw result ≡ mesh_said self.entry }
         ensures names { IsStrictlySortedBy name_cmp result.names.items }
         ensures dimensions { All (λ name. name.dimension ≤ 3) result.names.items }
     {
@@ -368,7 +368,7 @@ impl<'a> Front<'a> {
     }
 
     /// What the file says that ends here.
-    #[tactic(auto, unfolding(crate::specs::Reading::end_of))]
+    #[tactic(auto, unfolding(crate::specs::code_steps::LinesRead::end_of))]
     pub fn finish(self) -> Result<RawMesh, Fault>
         ensures value { Gives raw result (end_of self.entry) }
         ensures names { IfOk result (λ mesh. IsStrictlySortedBy name_cmp mesh.names.items) }
@@ -390,16 +390,16 @@ fn set_of(names: Vec<Name>) -> Vec<Name>
 }
 
 /// Tests that a section has as many entries as it has to have.
-fn enough(section: Section, count: u64) -> Result<(), MshKind>
+fn enough(section: Counted, count: u64) -> Result<(), MshKind>
     ensures { result ≡ enough section count }
 {
     match section {
-        Section::Names => Ok(()),
-        Section::Nodes => match count {
+        Counted::Names => Ok(()),
+        Counted::Nodes => match count {
             0 => Err(MshKind::NoNodes),
             _ => Ok(()),
         },
-        Section::Elements => match count {
+        Counted::Elements => match count {
             0 => Err(MshKind::NoElements),
             _ => Ok(()),
         },

@@ -1,8 +1,8 @@
 // Lines of `$PhysicalNames`.
 ghost use Rattle.std.specs.Prelude.{◌≡◌, None, Some, Ok, Err, IfOk, MatchOption, MatchResult, position, true};
-ghost use Rattle.msh_read.specs.Answer.{Gives};
+ghost use Rattle.msh_read.specs.code_steps.LineAnswers.{Gives};
 ghost use Rattle.msh_read.specs.GroupNames.{has_dimension};
-ghost use Rattle.msh_read.specs.NameLines.{cut_at_quote, is_quote, name_of, number_in_front, text_of};
+ghost use Rattle.msh_read.specs.NameLines.{cut_at_quote, is_quote, name_of, number_in_front, quoted_text};
 
 use crate::fault::{Fault, MshKind};
 use crate::raw::Name;
@@ -25,9 +25,9 @@ fn cut_at_quote(bytes: &[u8]) -> Option<(&[u8], &[u8])>
 }
 
 /// The text between two `"`.
-#[tactic(auto, unfolding(crate::specs::NameLines::text_of))]
+#[tactic(auto, unfolding(crate::specs::NameLines::quoted_text))]
 fn text(bytes: &[u8]) -> Result<&[u8], MshKind>
-    ensures { MatchResult result (λ text. text_of bytes.now ≡ Ok text.now) (λ kind. text_of bytes.now ≡ Err kind) }
+    ensures { MatchResult result (λ text. quoted_text bytes.now ≡ Ok text.now) (λ kind. quoted_text bytes.now ≡ Err kind) }
 {
     let Some((before, behind)) = cut_at_quote(bytes) else {
         return Err(MshKind::BadLine);

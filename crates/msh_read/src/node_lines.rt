@@ -1,7 +1,7 @@
 // Lines of `$Nodes`.
 ghost use Rattle.std.specs.Prelude.{◌≡◌, ◌≤◌, IfOk, OnOk, unsigned_abs, false, [], ◌∷◌, ◌++◌};
 ghost use Rattle.ma_geom.specs.Coordinates.{limit};
-ghost use Rattle.msh_read.specs.NodeLines.{coordinate_of, is_used, node_of, place_of};
+ghost use Rattle.msh_read.specs.NodeLines.{coordinate_of, is_used, node_of, place_in_words};
 
 use crate::fault::MshKind;
 use crate::words::{four_words, is_number, number};
@@ -22,9 +22,9 @@ fn coordinate(word: &[u8]) -> Result<i32, MshKind>
     }
 }
 
-#[tactic(auto, unfolding(crate::specs::NodeLines::place_of))]
+#[tactic(auto, unfolding(crate::specs::NodeLines::place_in_words))]
 fn place(first: &[u8], second: &[u8], third: &[u8]) -> Result<Place, MshKind>
-    ensures { result ≡ place_of first.now second.now third.now }
+    ensures { result ≡ place_in_words first.now second.now third.now }
 {
     let x = coordinate(first)?;
     let y = coordinate(second)?;

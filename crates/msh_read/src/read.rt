@@ -3,10 +3,11 @@ ghost use Rattle.std.specs.Prelude.{◌≡◌, ◌≤◌, IfOk};
 ghost use Rattle.std.specs.List.{All};
 ghost use Rattle.std.specs.List.Sorted.{IsStrictlySortedBy};
 ghost use Rattle.ma_text.specs.Lines.{numbered_lines};
-ghost use Rattle.msh_read.specs.Answer.{Answers, Reads};
-ghost use Rattle.msh_read.specs.Front.{nothing_read};
+ghost use Rattle.msh_read.specs.Answer.{AnswersFile, ReadsMesh};
+ghost use Rattle.msh_read.specs.code_steps.Front.{nothing_read};
 ghost use Rattle.msh_read.specs.GroupNames.{name_cmp};
-ghost use Rattle.msh_read.specs.Reading.{after, read_of};
+ghost use Rattle.msh_read.specs.Reading.{read_of};
+ghost use Rattle.msh_read.specs.code_steps.LinesRead.{after};
 
 use crate::fault::MshFault;
 use crate::front::Front;
@@ -14,9 +15,9 @@ use crate::raw::RawMesh;
 use ma_text::Lines;
 use std::alloc::Global;
 
-/// What all lines say.
+/// What the lines that are left say.
 fn front<'a>(alloc: Global, lines: &mut Lines<'a>) -> Result<Front<'a>, MshFault>
-    ensures value { Answers (λ front. front) result (after nothing_read lines.old.lines) }
+    ensures value { AnswersFile (λ front. front) result (after nothing_read lines.old.lines) }
     ensures end { lines.new.end ≡ lines.old.end }
 {
     let mut front = Front::new(alloc);
@@ -29,9 +30,8 @@ fn front<'a>(alloc: Global, lines: &mut Lines<'a>) -> Result<Front<'a>, MshFault
 }
 
 /// The mesh in a file.
-#[tactic(auto, unfolding(crate::specs::Reading::read_of))]
 pub fn read_msh(alloc: Global, bytes: &[u8]) -> Result<RawMesh, MshFault>
-    ensures exact { Reads result (read_of bytes.now) }
+    ensures exact { ReadsMesh result (read_of bytes.now) }
     ensures names { IfOk result (λ mesh. IsStrictlySortedBy name_cmp mesh.names.items) }
     ensures dimensions { IfOk result (λ mesh. All (λ name. name.dimension ≤ 3) mesh.names.items) }
 {

@@ -2,7 +2,7 @@
 
 /// A section that has a count and so many entries.
 #[derive(Clone, Copy, Debug, PartialEq, Eq)]
-pub enum Section {
+pub enum Counted {
     Names,
     Nodes,
     Elements,
@@ -19,7 +19,7 @@ pub enum Stand {
     /// Behind the line of the format.
     FormatEnd,
     /// At a section's count.
-    Count(Section),
+    Count(Counted),
     /// At so many entries of a section, and its end.
-    Entries(Section, u64),
+    Entries(Counted, u64),
 }

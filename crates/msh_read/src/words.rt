@@ -2,7 +2,7 @@
 ghost use Rattle.std.specs.Prelude.{◌≡◌, ◌<◌, ◌^◌, MatchOption, IfSome};
 ghost use Rattle.ma_text.specs.Lines.{is_blank_line};
 ghost use Rattle.ma_text.specs.Words.{words_of};
-ghost use Rattle.msh_read.specs.Lines.{begins_with, four_of, is_number, is_tag, natural, number_of, one_of, three_of};
+ghost use Rattle.msh_read.specs.Lines.{begins_with, four_of, is_number, is_tag, natural, number_in_word, one_of, three_of};
 
 use crate::fault::MshKind;
 use ma_text::{digits, next_word};
@@ -62,9 +62,9 @@ pub fn begins_with(front: &[u8], bytes: &[u8]) -> bool
 }
 
 /// The number that a word writes.
-#[tactic(auto, unfolding(crate::specs::Lines::number_of))]
+#[tactic(auto, unfolding(crate::specs::Lines::number_in_word))]
 pub fn number(word: &[u8]) -> Result<i64, MshKind>
-    ensures { result ≡ number_of word.now }
+    ensures { result ≡ number_in_word word.now }
 {
     match digits(word) {
         Ok(number) => Ok(number),

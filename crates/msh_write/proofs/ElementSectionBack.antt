@@ -11,22 +11,21 @@ use Rattle.ma_cells.specs.Tetrahedron.{Tetrahedron, are_corners, is_flat}
 use Rattle.ma_cells.specs.declared.cell.Cell.{Cell}
 use Rattle.ma_cells.specs.declared.cell.Cell.TheVariants.{Point, Seg, Tri}
 use Rattle.ma_text.specs.Words.{words_of}
-use Rattle.msh_read.specs.declared.entry.Entry.TheVariants.{Tet, Mark}
-use Rattle.msh_read.specs.declared.stand.Section.TheVariants.{Elements}
+use Rattle.msh_read.specs.declared.stand.Counted.TheVariants.{Elements}
 use Rattle.msh_read.specs.declared.stand.Stand.TheVariants.{Outside, Count, Entries}
-use Rattle.msh_read.specs.ElementLines.{element_of, nodes_of_kind}
-use Rattle.msh_read.specs.Front.{Front}
+use Rattle.msh_read.specs.ElementLines.{a_mark, a_tet, element_of, nodes_of_kind}
+use Rattle.msh_read.specs.code_steps.Front.{Front}
 use Rattle.msh_read.specs.GroupNames.{GroupName}
 use Rattle.msh_read.specs.Lines.{closes, header_of, is_tag}
-use Rattle.msh_read.specs.Sections.{begun, counted_read, element_read, elements_begun, end_read, header_read, step}
+use Rattle.msh_read.specs.code_steps.LineByLine.{begun, counted_read, element_read, elements_begun, end_read, header_read, step}
 use Rattle.msh_write.specs.ReadsBack.{positions_among, raw_mark, raw_tet}
-use Rattle.msh_write.specs.Text.{counted_section, element_line, kind_of, mark_element, number_among, numbered, oriented, tet_element}
+use Rattle.msh_write.specs.Text.{counted_section, element_line, kind_of, mark_element, number_among, item_lines, oriented, tet_element}
 use Rattle.msh_write.proofs.ElementsBack.{element-closes, element-is_line, element-read}
 use Rattle.msh_write.proofs.LinesBack.{is_line}
 use Rattle.msh_write.proofs.NodesBack.{ascending-set, distinct-from_set, numbers_from, oriented-all, oriented-length, oriented-set}
 use Rattle.msh_write.proofs.RunsBack.{run, run-append, run-section, run-all}
 use Rattle.msh_write.proofs.SectionsBack.{count_read-any, front_at, next-any, not_zero}
-use Rattle.msh_write.proofs.TextLines.{both_lengths, length-numbered, numbered-both}
+use Rattle.msh_write.proofs.TextLines.{both_lengths, length-item_lines, item_lines-both}
 use Rattle.ma_cells.proofs.Pieces.{four_corners}
 
 -- ---- one element
@@ -78,7 +77,7 @@ module _ (nodes : List Coordinates) (few : length nodes ≤ 2147483647) (number 
     fewer_than_four : (eqb (length (positions_among nodes (corners_of mark.cell))) 4) ≡ false
     fewer_than_four = ne_eqb _ 4 (λ e. omega (arith, length-map (corners_of mark.cell) (λ p. number_among nodes p - 1), few-corners mark.cell mark_cell))
 
-    pub mark-read : element_of (numbers_from 1 (length nodes)) (element_line nodes number (mark_element [] mark)) ≡ Ok (Mark (raw_mark nodes mark))
+    pub mark-read : element_of (numbers_from 1 (length nodes)) (element_line nodes number (mark_element [] mark)) ≡ Ok (a_mark (raw_mark nodes mark))
     mark-read =
         element-read nodes few number (kind_of mark.cell) mark.phys mark.elem (corners_of mark.cell) low high (small_kind mark.cell) mark_tags.0 mark_tags.1 mark_there (kind-known mark.cell mark_cell)
         (distinct-from_set (corners_of mark.cell) (corners_of mark.cell) (ascending-set (corners_of mark.cell) (cell-ascends mark.cell mark_cell)) refl)
@@ -109,7 +108,7 @@ module _ (nodes : List Coordinates) (few : length nodes ≤ 2147483647) (number 
     just_four : (eqb (length (positions_among nodes (oriented tet.corners))) 4) ≡ true
     just_four = eq-eqb _ 4 (length-map (oriented tet.corners) (λ p. number_among nodes p - 1) ∙ tet_four)
 
-    pub tet-read : element_of (numbers_from 1 (length nodes)) (element_line nodes number (tet_element [] tet)) ≡ Ok (Tet (raw_tet nodes tet))
+    pub tet-read : element_of (numbers_from 1 (length nodes)) (element_line nodes number (tet_element [] tet)) ≡ Ok (a_tet (raw_tet nodes tet))
     tet-read =
         element-read nodes few number 4 tet.phys tet.elem (oriented tet.corners) low high small_four tet_tags.0 tet_tags.1 tet_there (ap (λ n. Some n) (sym tet_four))
         (distinct-from_set (oriented tet.corners) tet.corners (oriented-set tet.corners tet_ascends) (oriented-length tet.corners))
@@ -167,28 +166,28 @@ module _ (has_names : Bool) (names : List GroupName) (nodes : List Coordinates) 
 
   module _ (marks : List CellMark) (tets : List Tetrahedron) (some : 1 ≤ length tets) (fits : length marks + length tets ≤ 2147483647) (good_marks : list_all (is_good_mark nodes) marks ≡ true)
       (good_tets : list_all (is_good_tet nodes) tets ≡ true) where
-    marks_run : run (marked [] (length marks + length tets)) (numbered (λ n mark. element_line nodes n (mark_element [] mark)) marks) ≡ Ok (marked marks (length tets))
+    marks_run : run (marked [] (length marks + length tets)) (item_lines (λ n mark. element_line nodes n (mark_element [] mark)) marks) ≡ Ok (marked marks (length tets))
     marks_run = run-all (λ n mark. element_line nodes n (mark_element [] mark)) marked (is_good_mark nodes) 2147483647 mark_steps marks (length tets) (omega arith) good_marks
 
-    tets_run : run (solid marks [] (length tets)) (numbered (λ n tet. element_line nodes (length marks + n) (tet_element [] tet)) tets) ≡ Ok (solid marks tets 0)
+    tets_run : run (solid marks [] (length tets)) (item_lines (λ n tet. element_line nodes (length marks + n) (tet_element [] tet)) tets) ≡ Ok (solid marks tets 0)
     tets_run =
         let none : length tets + 0 ≡ length tets = omega arith in
         rw none at (run-all (λ n tet. element_line nodes (length marks + n) (tet_element [] tet)) (solid marks) (is_good_tet nodes) (length tets) (tet_steps marks (length tets) fits) tets 0 (omega arith) good_tets)
 
-    body : run (marked [] (length marks + length tets)) (numbered (element_line nodes) (map (mark_element []) marks ++ map (tet_element []) tets)) ≡ Ok (solid marks tets 0)
+    body : run (marked [] (length marks + length tets)) (item_lines (element_line nodes) (map (mark_element []) marks ++ map (tet_element []) tets)) ≡ Ok (solid marks tets 0)
     body =
-        ap (run (marked [] (length marks + length tets))) (numbered-both (element_line nodes) (mark_element []) (tet_element []) marks tets)
-        ∙ run-append (marked [] (length marks + length tets)) (marked marks (length tets)) (solid marks tets 0) (numbered (λ n mark. element_line nodes n (mark_element [] mark)) marks)
-        (numbered (λ n tet. element_line nodes (length marks + n) (tet_element [] tet)) tets) marks_run tets_run
+        ap (run (marked [] (length marks + length tets))) (item_lines-both (element_line nodes) (mark_element []) (tet_element []) marks tets)
+        ∙ run-append (marked [] (length marks + length tets)) (marked marks (length tets)) (solid marks tets 0) (item_lines (λ n mark. element_line nodes n (mark_element [] mark)) marks)
+        (item_lines (λ n tet. element_line nodes (length marks + n) (tet_element [] tet)) tets) marks_run tets_run
 
-    long : length (numbered (element_line nodes) (map (mark_element []) marks ++ map (tet_element []) tets)) ≡ length marks + length tets
-    long = length-numbered (element_line nodes) (map (mark_element []) marks ++ map (tet_element []) tets) ∙ both_lengths (mark_element []) (tet_element []) marks tets
+    long : length (item_lines (element_line nodes) (map (mark_element []) marks ++ map (tet_element []) tets)) ≡ length marks + length tets
+    long = length-item_lines (element_line nodes) (map (mark_element []) marks ++ map (tet_element []) tets) ∙ both_lengths (mark_element []) (tet_element []) marks tets
 
     pub elements-run : (header : List ℕ)
-        → run (front_at Outside header has_names true false names (numbers_from 1 (length nodes)) nodes [] []) (counted_section (codes "Elements") (numbered (element_line nodes) (map (mark_element []) marks ++ map (tet_element []) tets)))
+        → run (front_at Outside header has_names true false names (numbers_from 1 (length nodes)) nodes [] []) (counted_section (codes "Elements") (item_lines (element_line nodes) (map (mark_element []) marks ++ map (tet_element []) tets)))
         ≡ Ok (front_at Outside (codes "Elements") has_names true true names (numbers_from 1 (length nodes)) nodes (map (raw_mark nodes) marks) (map (raw_tet nodes) tets))
     elements-run header =
-        let counted : step (front_at (Count Elements) (codes "Elements") has_names true true names (numbers_from 1 (length nodes)) nodes [] []) (decimal (length (numbered (element_line nodes) (map (mark_element []) marks ++ map (tet_element []) tets))))
+        let counted : step (front_at (Count Elements) (codes "Elements") has_names true true names (numbers_from 1 (length nodes)) nodes [] []) (decimal (length (item_lines (element_line nodes) (map (mark_element []) marks ++ map (tet_element []) tets))))
         ≡ Ok (marked [] (length marks + length tets)) = ap (λ n. step (front_at (Count Elements) (codes "Elements") has_names true true names (numbers_from 1 (length nodes)) nodes [] []) (decimal n)) long
         ∙ elements_count (length marks + length tets) (omega arith) (omega arith) in
-        run-section (codes "Elements") (numbered (element_line nodes) (map (mark_element []) marks ++ map (tet_element []) tets)) _ _ _ _ _ (elements_begin header) counted body (elements_end marks tets)
+        run-section (codes "Elements") (item_lines (element_line nodes) (map (mark_element []) marks ++ map (tet_element []) tets)) _ _ _ _ _ (elements_begin header) counted body (elements_end marks tets)

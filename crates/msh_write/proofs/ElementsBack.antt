@@ -7,8 +7,8 @@ use Rattle.std.proofs.lemmas.Bool.{and_from, and_parts, eq-eqb, le-leb, ltb-true
 use Rattle.std.proofs.lemmas.List.{length-map}
 use Rattle.ma_geom.specs.Coordinates.{Coordinates, place_cmp}
 use Rattle.ma_cells.specs.Ascending.{are_distinct, has}
-use Rattle.msh_read.specs.ElementLines.{element_at, element_by, element_of, entry_of, nodes_of_kind, numbers_of, positions_of}
-use Rattle.msh_read.specs.Lines.{closes, is_number, is_tag, number_of}
+use Rattle.msh_read.specs.ElementLines.{element_at, element_by, element_of, element_with, nodes_of_kind, numbers_of, positions_of}
+use Rattle.msh_read.specs.Lines.{closes, is_number, is_tag, number_in_word}
 use Rattle.msh_read.specs.Steps.{each}
 use Rattle.ma_text.specs.Words.{words_of}
 use Rattle.msh_write.specs.Text.{element_line, number_among}
@@ -21,12 +21,12 @@ pub tag-fits : (z : ℤ) → is_tag z ≡ true → fits_64 z
 tag-fits (pos n) h = let small : n < 2147483648 = ltb-true n 2147483648 h in omega arith
 tag-fits (negsuc n) h = let small : n < 2147483648 = ltb-true n 2147483648 h in omega arith
 
-pub number_of-decimal : (n : ℕ) → n < 2 ^ 63 → number_of (decimal n) ≡ Ok (pos n)
-unfolding number_of
+pub number_of-decimal : (n : ℕ) → n < 2 ^ 63 → number_in_word (decimal n) ≡ Ok (pos n)
+unfolding number_in_word
 number_of-decimal n h = rw (digits_of-decimal n h) refl
 
-pub number_of-signed : (z : ℤ) → fits_64 z → number_of (signed_decimal z) ≡ Ok z
-unfolding number_of
+pub number_of-signed : (z : ℤ) → fits_64 z → number_in_word (signed_decimal z) ≡ Ok z
+unfolding number_in_word
 number_of-signed z h = rw (digits_of-signed z h) refl
 
 pub is_number-pos : (n : ℕ) → 1 ≤ n → n ≤ 2147483647 → is_number (pos n) ≡ true
@@ -42,7 +42,7 @@ module _ (nodes : List Coordinates) (few : length nodes ≤ 2147483647) where
       let at = among nodes p parts.0 in
       and_from _ _ (decimal-is_word (number_among nodes p) (omega (arith, at.high))) (corners-words corners parts.1)
 
-  corners-numbers : (corners : List Coordinates) → list_all (λ p. has place_cmp p nodes) corners ≡ true → each number_of (map (λ p. decimal (number_among nodes p)) corners) ≡ Ok (numbers_of_places nodes corners)
+  corners-numbers : (corners : List Coordinates) → list_all (λ p. has place_cmp p nodes) corners ≡ true → each number_in_word (map (λ p. decimal (number_among nodes p)) corners) ≡ Ok (numbers_of_places nodes corners)
   corners-numbers [] all = refl
   corners-numbers (p ∷ corners) all =
       let parts = and_parts (has place_cmp p nodes) (list_all (λ q. has place_cmp q nodes) corners) all in
@@ -90,17 +90,17 @@ module _ (nodes : List Coordinates) (few : length nodes ≤ 2147483647) where
       unfolding positions_of
       positions = rw (positions-found nodes corners there, numbers-different nodes corners there apart) refl
 
-      by_tags : element_by (numbers_from 1 (length nodes)) (phys ∷ elem ∷ []) (numbers_of_places nodes corners) ≡ Ok (entry_of (phys ∷ elem ∷ []) (map (λ p. number_among nodes p - 1) corners))
+      by_tags : element_by (numbers_from 1 (length nodes)) (phys ∷ elem ∷ []) (numbers_of_places nodes corners) ≡ Ok (element_with (phys ∷ elem ∷ []) (map (λ p. number_among nodes p - 1) corners))
       unfolding element_by
       by_tags = rw (phys_fits, elem_fits, positions) refl
 
-      by_count : element_at (numbers_from 1 (length nodes)) (pos kind) 2 (phys ∷ elem ∷ numbers_of_places nodes corners) ≡ Ok (entry_of (phys ∷ elem ∷ []) (map (λ p. number_among nodes p - 1) corners))
+      by_count : element_at (numbers_from 1 (length nodes)) (pos kind) 2 (phys ∷ elem ∷ numbers_of_places nodes corners) ≡ Ok (element_with (phys ∷ elem ∷ []) (map (λ p. number_among nodes p - 1) corners))
       unfolding element_at
       by_count =
           let long : eqb (length (phys ∷ elem ∷ numbers_of_places nodes corners)) (2 + length corners) ≡ true = eq-eqb _ _ (omega (arith, length-map corners (λ p. pos (number_among nodes p)))) in
           rw (known_kind, long) by_tags
 
       pub element-read : element_of (numbers_from 1 (length nodes)) (element_line nodes number (record { kind = kind; tags = phys ∷ elem ∷ []; corners = corners }))
-          ≡ Ok (entry_of (phys ∷ elem ∷ []) (map (λ p. number_among nodes p - 1) corners))
+          ≡ Ok (element_with (phys ∷ elem ∷ []) (map (λ p. number_among nodes p - 1) corners))
       unfolding element_of
       element-read = rw (element-numbers, is_number-pos number low high) by_count

@@ -8,9 +8,9 @@ use Rattle.ma_geom.specs.Coordinates.{Coordinates, limit}
 use Rattle.ma_text.specs.Words.{words_of}
 use Rattle.ma_text.proofs.LineCuts.{is_feed}
 use Rattle.msh_read.specs.GroupNames.{GroupName, has_dimension}
-use Rattle.msh_read.specs.Lines.{closes, is_tag, number_of}
-use Rattle.msh_read.specs.NameLines.{cut_at_quote, is_quote, name_of, number_in_front, text_of}
-use Rattle.msh_read.specs.NodeLines.{coordinate_of, node_of, place_of}
+use Rattle.msh_read.specs.Lines.{closes, is_tag, number_in_word}
+use Rattle.msh_read.specs.NameLines.{cut_at_quote, is_quote, name_of, number_in_front, quoted_text}
+use Rattle.msh_read.specs.NodeLines.{coordinate_of, node_of, place_in_words}
 use Rattle.msh_write.specs.Text.{name_line, node_line}
 use Rattle.msh_write.proofs.ElementsBack.{is_number-pos, number_of-decimal, number_of-signed, tag-fits}
 use Rattle.msh_write.proofs.LinesBack.{after-at, before-at, is_line, is_line-line, is_line-quoted, position-at}
@@ -20,30 +20,30 @@ use Rattle.msh_write.proofs.WordsBack.{cut_word-space, cut_word-word, decimal-is
 
 -- ---- nodes
 
-abbrev is_near : ℤ → Bool
-is_near z = leb (unsigned_abs z) limit
+abbrev is_near_zero : ℤ → Bool
+is_near_zero z = leb (unsigned_abs z) limit
 
 -- whether each coordinate is in range
-abbrev pub is_in_range : Coordinates → Bool
-is_in_range p = is_near p.x && (is_near p.y && is_near p.z)
+abbrev pub is_near_place : Coordinates → Bool
+is_near_place p = is_near_zero p.x && (is_near_zero p.y && is_near_zero p.z)
 
-near-fits : (z : ℤ) → is_near z ≡ true → fits_64 z
+near-fits : (z : ℤ) → is_near_zero z ≡ true → fits_64 z
 near-fits (pos n) h = let small : n ≤ limit = leb-true n limit h in omega arith
 near-fits (negsuc n) h = let small : unsigned_abs (negsuc n) ≤ limit = leb-true (unsigned_abs (negsuc n)) limit h in omega arith
 
-coordinate : (z : ℤ) → is_near z ≡ true → coordinate_of (signed_decimal z) ≡ Ok z
+coordinate : (z : ℤ) → is_near_zero z ≡ true → coordinate_of (signed_decimal z) ≡ Ok z
 unfolding coordinate_of
 coordinate z h = rw (whole_of-signed z (near-fits z h), h) refl
 
-module _ (number : ℕ) (p : Coordinates) (low : 1 ≤ number) (high : number ≤ 2147483647) (near : is_in_range p ≡ true) where
-  x_near : is_near p.x ≡ true
-  x_near = (and_parts (is_near p.x) (is_near p.y && is_near p.z) near).0
+module _ (number : ℕ) (p : Coordinates) (low : 1 ≤ number) (high : number ≤ 2147483647) (near : is_near_place p ≡ true) where
+  x_near : is_near_zero p.x ≡ true
+  x_near = (and_parts (is_near_zero p.x) (is_near_zero p.y && is_near_zero p.z) near).0
 
-  y_near : is_near p.y ≡ true
-  y_near = (and_parts (is_near p.y) (is_near p.z) (and_parts (is_near p.x) (is_near p.y && is_near p.z) near).1).0
+  y_near : is_near_zero p.y ≡ true
+  y_near = (and_parts (is_near_zero p.y) (is_near_zero p.z) (and_parts (is_near_zero p.x) (is_near_zero p.y && is_near_zero p.z) near).1).0
 
-  z_near : is_near p.z ≡ true
-  z_near = (and_parts (is_near p.y) (is_near p.z) (and_parts (is_near p.x) (is_near p.y && is_near p.z) near).1).1
+  z_near : is_near_zero p.z ≡ true
+  z_near = (and_parts (is_near_zero p.y) (is_near_zero p.z) (and_parts (is_near_zero p.x) (is_near_zero p.y && is_near_zero p.z) near).1).1
 
   node_words : list_all is_word (decimal number ∷ signed_decimal p.x ∷ signed_decimal p.y ∷ signed_decimal p.z ∷ []) ≡ true
   node_words =
@@ -60,8 +60,8 @@ module _ (number : ℕ) (p : Coordinates) (low : 1 ≤ number) (high : number �
   unfolding closes
   node-closes name = rw words refl
 
-  place : place_of (signed_decimal p.x) (signed_decimal p.y) (signed_decimal p.z) ≡ Ok p
-  unfolding place_of
+  place : place_in_words (signed_decimal p.x) (signed_decimal p.y) (signed_decimal p.z) ≡ Ok p
+  unfolding place_in_words
   place = rw (coordinate p.x x_near, coordinate p.y y_near, coordinate p.z z_near) refl
 
   -- the next number hasn't been used
@@ -80,11 +80,11 @@ cuts_at_quote : (before rest : List ℕ) → list_all (λ b. not (is_quote b)) b
 cuts_at_quote before rest h =
     rw (lt-ltb _ _ (position-at is_quote 34 refl before rest h)) (ap (λ b. Some (b, after_first is_quote (before ++ 34 ∷ rest))) (before-at is_quote 34 refl before rest h) ∙ ap (λ r. Some (before, r)) (after-at is_quote 34 refl before rest h))
 
-quoted : (text : List ℕ) → list_all (λ b. not (is_quote b)) text ≡ true → text_of (32 ∷ 34 ∷ (text ++ 34 ∷ [])) ≡ Ok text
-unfolding text_of
+quoted : (text : List ℕ) → list_all (λ b. not (is_quote b)) text ≡ true → quoted_text (32 ∷ 34 ∷ (text ++ 34 ∷ [])) ≡ Ok text
+unfolding quoted_text
 quoted text h = rw (cuts_at_quote (32 ∷ []) (text ++ 34 ∷ []) refl, cuts_at_quote text [] h) refl
 
-in_front : (word rest : List ℕ) (z : ℤ) → is_word word ≡ true → number_of word ≡ Ok z → number_in_front (word ++ 32 ∷ rest) ≡ Ok (z, 32 ∷ rest)
+in_front : (word rest : List ℕ) (z : ℤ) → is_word word ≡ true → number_in_word word ≡ Ok z → number_in_front (word ++ 32 ∷ rest) ≡ Ok (z, 32 ∷ rest)
 unfolding number_in_front
 in_front word rest z h e = rw (cut_word-word word rest h, e) refl
 

@@ -27,9 +27,9 @@ use Rattle.ma_cells.proofs.Ascents.{has-ascending_of, is-ascending_of, sorted-as
 use Rattle.ma_cells.proofs.CellOrders.{cell_cmp-IsAntisymmetric, cell_cmp_total, derived_cell_cmp, tet_cmp-IsAntisymmetric}
 use Rattle.ma_cells.proofs.CellLists.{has-cells_of}
 use Rattle.ma_cells.specs.contracts.cell.CellOrd.TheImpl as CellOrder
-use Rattle.msh_write.specs.Holders.{Holder, holder_cmp, holder_element, holder_tags, holders_by, holders_of, is_among, is_of, marked_cells}
+use Rattle.msh_write.specs.steps.Holders.{Holder, holder_cmp, holder_element, holder_tags, holders_by, holders_of, is_among, is_of, marked_cells}
 use Rattle.msh_write.specs.PartText.{Member, cell_tags, is_on_own, member_cmp, resident_element, resident_tags, residents_of}
-use Rattle.msh_write.specs.Text.{element_line, mark_element, numbered}
+use Rattle.msh_write.specs.Text.{element_line, mark_element, item_lines}
 use Rattle.msh_write.proofs.TextLines.{numbered-alike}
 use Rattle.msh_write.proofs.Sets.{any-and, any-ascending_of, any-filter, any-flat_map, any-same}
 use Rattle.ma_cells.proofs.Passing.{any-map}
@@ -253,9 +253,9 @@ marked-there marks = λ k d below.
 -- the lines of marks by the holders of their cells
 pub marks-alike : (nodes : List Coordinates) (part : ℕ) (cells : List Cell) (members : List Member) (holders : List Holder) (marks : List CellMark) → cells ≡ marked_cells marks
     → holders ≡ holders_of cells members → All (λ m. are_ascending place_cmp m.0.corners ≡ true) members → All (λ mark. is_cell mark.cell ≡ true) marks
-    → numbered (λ number mark. element_line nodes number (holder_element part holders mark)) marks ≡ numbered (λ number mark. element_line nodes number (resident_element part members mark)) marks
+    → item_lines (λ number mark. element_line nodes number (holder_element part holders mark)) marks ≡ item_lines (λ number mark. element_line nodes number (resident_element part members mark)) marks
 marks-alike nodes part cells members holders marks marked is rise are_cells =
-    ap (λ hs. numbered (λ number mark. element_line nodes number (holder_element part hs mark)) marks) is
+    ap (λ hs. item_lines (λ number mark. element_line nodes number (holder_element part hs mark)) marks) is
     ∙ numbered-alike (λ number mark. element_line nodes number (holder_element part (holders_of cells members) mark)) (λ number mark. element_line nodes number (resident_element part members mark))
     (λ mark. (is_cell mark.cell ≡ true) × (is_among cells mark.cell ≡ true))
     (λ number mark known. ap (λ tags. element_line nodes number (mark_element tags mark)) (tags-are cells mark.cell known.0 known.1 part members (by_recursion (λ m. are_ascending place_cmp m.0.corners ≡ true) members rise)))

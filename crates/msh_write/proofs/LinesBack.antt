@@ -76,8 +76,6 @@ numbered_lines-ended lines h = ap (numbered 1) (lines_of-ended lines h) ∙ numb
 
 -- ---- lines of words
 
--- ---- lines of words
-
 -- a space or a byte past it
 abbrev is_shown : ℕ → Bool
 is_shown byte = ltb 31 byte

@@ -18,10 +18,10 @@ use Rattle.msh_read.specs.NameLines.{is_quote}
 use Rattle.msh_read.specs.Reading.{read_of}
 use Rattle.msh_read.proofs.Dimensions.{all_ascending}
 use Rattle.ma_text.proofs.LineCuts.{is_feed}
-use Rattle.msh_write.specs.ReadsBack.{AreReadable, IsReadable, RawIsMesh, ReadsBack, TextReadsBack, may_be_quoted, places_at, positions_among, raw_mark, raw_tet}
+use Rattle.msh_write.specs.ReadsBack.{AreReadable, IsReadable, RawIsMesh, ReadsBack, TextReadsBack, may_be_quoted, corners_at, positions_among, raw_mark, raw_tet}
 use Rattle.msh_write.specs.Text.{is_tagged, mark_element, nodes_of, oriented, tet_element, text_of, text_with}
 use Rattle.msh_write.proofs.ElementSectionBack.{cell-ascends, is_good_mark, is_good_tet}
-use Rattle.msh_write.proofs.EntriesBack.{is_in_range, is_readable}
+use Rattle.msh_write.proofs.EntriesBack.{is_near_place, is_readable}
 use Rattle.msh_write.proofs.NodesBack.{among, ascending-set, distinct-from_set, oriented-all, oriented-set}
 use Rattle.msh_write.proofs.Numbering.{corners-there, marks-there}
 use Rattle.msh_write.proofs.NumbersBack.{weaker}
@@ -39,18 +39,18 @@ name-good names ok =
 
 -- ---- nodes
 
-place-in_range : (p : Coordinates) → IsInRange p → is_in_range p ≡ true
+place-in_range : (p : Coordinates) → IsInRange p → is_near_place p ≡ true
 place-in_range p r = and_from _ _ (le-leb _ limit r.x) (and_from _ _ (le-leb _ limit r.y) (le-leb _ limit r.z))
 
-corners-in_range : (tets : List Tetrahedron) → All (λ tet. All IsInRange tet.corners) tets → list_all is_in_range (flat_map (λ tet. tet.corners) tets) ≡ true
+corners-in_range : (tets : List Tetrahedron) → All (λ tet. All IsInRange tet.corners) tets → list_all is_near_place (flat_map (λ tet. tet.corners) tets) ≡ true
 corners-in_range [] near = refl
 corners-in_range (tet ∷ tets) near =
-    list_all-append is_in_range tet.corners (flat_map (λ t. t.corners) tets)
-    ∙ and_from _ _ (list_all-from_AllPass is_in_range tet.corners (λ k d h. place-in_range (get_or tet.corners k d) (All-head (λ t. All IsInRange t.corners) tet tets near k d h)))
+    list_all-append is_near_place tet.corners (flat_map (λ t. t.corners) tets)
+    ∙ and_from _ _ (list_all-from_AllPass is_near_place tet.corners (λ k d h. place-in_range (get_or tet.corners k d) (All-head (λ t. All IsInRange t.corners) tet tets near k d h)))
     (corners-in_range tets (All-tail (λ t. All IsInRange t.corners) tet tets near))
 
-nodes-in_range : (tets : List Tetrahedron) → All (λ tet. All IsInRange tet.corners) tets → list_all is_in_range (nodes_of tets) ≡ true
-nodes-in_range tets near = all_ascending place_cmp is_in_range (flat_map (λ tet. tet.corners) tets) (corners-in_range tets near)
+nodes-in_range : (tets : List Tetrahedron) → All (λ tet. All IsInRange tet.corners) tets → list_all is_near_place (nodes_of tets) ≡ true
+nodes-in_range tets near = all_ascending place_cmp is_near_place (flat_map (λ tet. tet.corners) tets) (corners-in_range tets near)
 
 same_at : (tets : List Tetrahedron) (k : ℕ) (d e : Tetrahedron) → k < length tets → get_or tets k d ≡ get_or tets k e
 same_at [] k d e h = absurd (omega arith)
@@ -99,13 +99,13 @@ reads_back-from_text mesh names text is ok names_ok = ap read_of is ∙ text-rea
 
 -- ---- what is read is the mesh again
 
-places-again : (nodes places : List Coordinates) → list_all (λ p. has place_cmp p nodes) places ≡ true → places_at nodes (positions_among nodes places) ≡ places
+places-again : (nodes places : List Coordinates) → list_all (λ p. has place_cmp p nodes) places ≡ true → corners_at nodes (positions_among nodes places) ≡ places
 places-again nodes [] there = refl
 places-again nodes (p ∷ places) there =
     let parts = and_parts (has place_cmp p nodes) (list_all (λ q. has place_cmp q nodes) places) there in
     rw ((among nodes p parts.0).there (record { x = pos 0; y = pos 0; z = pos 0 })) (ap (λ r. p ∷ r) (places-again nodes places parts.1))
 
-tet-again : (nodes : List Coordinates) (tet : Tetrahedron) → is_good_tet nodes tet ≡ true → tetrahedron_of (places_at nodes (positions_among nodes (oriented tet.corners))) tet.phys tet.elem ≡ Some tet
+tet-again : (nodes : List Coordinates) (tet : Tetrahedron) → is_good_tet nodes tet ≡ true → tetrahedron_of (corners_at nodes (positions_among nodes (oriented tet.corners))) tet.phys tet.elem ≡ Some tet
 tet-again nodes tet good =
     let parts = and_parts (are_corners tet.corners) _ good in
     let ascends = and_parts (are_ascending place_cmp tet.corners) (not (is_flat tet.corners)) parts.0 in
@@ -115,7 +115,7 @@ tet-again nodes tet good =
     ∙ rw (not-true (is_flat tet.corners) ascends.1) refl
 
 tets-again : (nodes : List Coordinates) (tets : List Tetrahedron) → list_all (is_good_tet nodes) tets ≡ true
-    → map (λ tet. tetrahedron_of (places_at nodes tet.at) tet.phys tet.elem) (map (raw_tet nodes) tets) ≡ map (λ tet. Some tet) tets
+    → map (λ tet. tetrahedron_of (corners_at nodes tet.at) tet.phys tet.elem) (map (raw_tet nodes) tets) ≡ map (λ tet. Some tet) tets
 tets-again nodes [] good = refl
 tets-again nodes (tet ∷ tets) good =
     let parts = and_parts (is_good_tet nodes tet) (list_all (is_good_tet nodes) tets) good in
@@ -139,7 +139,7 @@ cell-again cell h =
     rw (distinct-from_set (corners_of cell) (corners_of cell) set refl) (ap cell_on (sym set) ∙ cell-on-corners cell h)
 
 marks-again : (nodes : List Coordinates) (marks : List CellMark) → list_all (is_good_mark nodes) marks ≡ true
-    → map (λ mark. mark_on (places_at nodes mark.at.items) mark.phys mark.elem) (map (raw_mark nodes) marks) ≡ map (λ mark. Some mark) marks
+    → map (λ mark. mark_on (corners_at nodes mark.at.items) mark.phys mark.elem) (map (raw_mark nodes) marks) ≡ map (λ mark. Some mark) marks
 marks-again nodes [] good = refl
 marks-again nodes (mark ∷ marks) good =
     let parts = and_parts (is_good_mark nodes mark) (list_all (is_good_mark nodes) marks) good in

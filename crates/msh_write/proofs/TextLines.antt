@@ -12,7 +12,7 @@ use Rattle.std.proofs.Math.ListN.{length-map}
 use Rattle.ma_geom.specs.Coordinates.{Coordinates}
 use Rattle.ma_cells.specs.Tetrahedron.{Tetrahedron}
 use Rattle.msh_read.specs.GroupNames.{GroupName}
-use Rattle.msh_write.specs.Text.{Element, counted_section, element_line, ended, format_lines, head_lines, name_line, names_lines, node_line, nodes_of, number_among, numbered, text_with}
+use Rattle.msh_write.specs.Text.{Element, counted_section, element_line, ended, format_lines, head_lines, name_line, names_lines, node_line, nodes_of, number_among, item_lines, text_with}
 
 -- a line's further words, each after a space
 join_with_byte-cons : (word : List ℕ) (words : List (List ℕ)) → join_with_byte 32 (word ∷ words) ≡ word ++ flat_map (λ w. 32 ∷ w) words
@@ -65,14 +65,14 @@ pub lines-end : {X : Type 0} (line : ℕ → X → List ℕ) (items : List X) (i
 unfolding ended
 lines-end line items i written all h so_far = sym (append-nil written) ∙ rw (drop_all i items h) at so_far
 
-pub length-numbered : {X : Type 0} (line : ℕ → X → List ℕ) (items : List X) → length (numbered line items) ≡ length items
-length-numbered line items = simp (length-map, length-enumerate_from)
+pub length-item_lines : {X : Type 0} (line : ℕ → X → List ℕ) (items : List X) → length (item_lines line items) ≡ length items
+length-item_lines line items = simp (length-map, length-enumerate_from)
 
 not_none : (n : ℕ) → eqb (suc n) 0 ≡ true → ⊥
 not_none n h = grind (arith, nat_tests)
 
 -- no items make no lines
-pub no-lines : {X : Type 0} (line : ℕ → X → List ℕ) (items : List X) (a : List ℕ) → eqb (length items) 0 ≡ true → a ≡ a ++ ended (numbered line items)
+pub no-lines : {X : Type 0} (line : ℕ → X → List ℕ) (items : List X) (a : List ℕ) → eqb (length items) 0 ≡ true → a ≡ a ++ ended (item_lines line items)
 unfolding ended
 no-lines line [] a none = sym (append-nil a)
 no-lines line (x ∷ xs) a none = absurd (not_none (length xs) none)
@@ -85,7 +85,7 @@ lines-alike line other P same n (x ∷ xs) h =
     ∙ ap (λ r. other n x ∷ r) (lines-alike line other P same (n + 1) xs (λ k d below. h (suc k) d (omega arith)))
 
 -- items whose lines are the same however they are made
-pub numbered-alike : {X : Type 0} (line other : ℕ → X → List ℕ) (P : X → Type 0) → ((n : ℕ) (x : X) → P x → line n x ≡ other n x) → (items : List X) → All P items → numbered line items ≡ numbered other items
+pub numbered-alike : {X : Type 0} (line other : ℕ → X → List ℕ) (P : X → Type 0) → ((n : ℕ) (x : X) → P x → line n x ≡ other n x) → (items : List X) → All P items → item_lines line items ≡ item_lines other items
 numbered-alike line other P same items h = lines-alike line other P same 1 items h
 
 five_pieces : (a h n f b e : List ℕ) → ((((a ++ h) ++ n) ++ f) ++ b) ++ e ≡ a ++ (h ++ ((n ++ f) ++ (b ++ e)))
@@ -131,13 +131,13 @@ numbered-later line g k n (y ∷ ys) =
     let next : (k + n) + 1 ≡ k + (n + 1) = omega arith in
     ap (λ r. line (k + n) (g y) ∷ r) (ap (λ m. map (λ e. line e.0 e.1) (enumerate_from m (map g ys))) next ∙ numbered-later line g k (n + 1) ys)
 
-pub numbered-both : {X Y Z : Type 0} (line : ℕ → Z → List ℕ) (f : X → Z) (g : Y → Z) (xs : List X) (ys : List Y)
-    → numbered line (map f xs ++ map g ys) ≡ numbered (λ n x. line n (f x)) xs ++ numbered (λ n y. line (length xs + n) (g y)) ys
-numbered-both line f g xs ys =
+pub item_lines-both : {X Y Z : Type 0} (line : ℕ → Z → List ℕ) (f : X → Z) (g : Y → Z) (xs : List X) (ys : List Y)
+    → item_lines line (map f xs ++ map g ys) ≡ item_lines (λ n x. line n (f x)) xs ++ item_lines (λ n y. line (length xs + n) (g y)) ys
+item_lines-both line f g xs ys =
     let first : 1 + length xs ≡ length xs + 1 = omega arith in
     numbered-more line f 1 xs (map g ys)
-    ∙ ap (λ k. numbered (λ n x. line n (f x)) xs ++ map (λ e. line e.0 e.1) (enumerate_from k (map g ys))) first
-    ∙ ap (λ r. numbered (λ n x. line n (f x)) xs ++ r) (numbered-later line g (length xs) 1 ys)
+    ∙ ap (λ k. item_lines (λ n x. line n (f x)) xs ++ map (λ e. line e.0 e.1) (enumerate_from k (map g ys))) first
+    ∙ ap (λ r. item_lines (λ n x. line n (f x)) xs ++ r) (numbered-later line g (length xs) 1 ys)
 
 pub both_lengths : {X Y Z : Type 0} (f : X → Z) (g : Y → Z) (xs : List X) (ys : List Y) → length (map f xs ++ map g ys) ≡ length xs + length ys
 both_lengths f g xs ys = simp (length-append, length-map)
@@ -145,16 +145,16 @@ both_lengths f g xs ys = simp (length-append, length-map)
 -- the elements' section, written piece by piece
 pub elements-written : {X Y : Type 0} (nodes : List Coordinates) (f : X → Element) (g : Y → Element) (xs : List X) (ys : List Y) (count before : ℕ) (a b c d e h : List ℕ)
     → length xs + length ys ≡ count → before ≡ length xs → b ≡ a ++ ((codes "$" ++ codes "Elements") ++ 10 ∷ []) → c ≡ b ++ decimal count → d ≡ c ++ 10 ∷ []
-    → e ≡ d ++ ended (numbered (λ n x. element_line nodes n (f x)) xs) → h ≡ e ++ ended (numbered (λ n y. element_line nodes (before + n) (g y)) ys)
-    → h ++ ((codes "$End" ++ codes "Elements") ++ 10 ∷ []) ≡ a ++ ended (counted_section (codes "Elements") (numbered (element_line nodes) (map f xs ++ map g ys)))
+    → e ≡ d ++ ended (item_lines (λ n x. element_line nodes n (f x)) xs) → h ≡ e ++ ended (item_lines (λ n y. element_line nodes (before + n) (g y)) ys)
+    → h ++ ((codes "$End" ++ codes "Elements") ++ 10 ∷ []) ≡ a ++ ended (counted_section (codes "Elements") (item_lines (element_line nodes) (map f xs ++ map g ys)))
 elements-written nodes f g xs ys count before a b c d e h counted behind header number feed first second =
     let line : ℕ → Element → List ℕ = element_line nodes in
-    let one : List (List ℕ) = numbered (λ n x. line n (f x)) xs in
-    let two : List (List ℕ) = numbered (λ n y. line (length xs + n) (g y)) ys in
-    let all : length (numbered line (map f xs ++ map g ys)) ≡ count = length-numbered line (map f xs ++ map g ys) ∙ both_lengths f g xs ys ∙ counted in
-    let body : h ≡ d ++ ended (numbered line (map f xs ++ map g ys)) =
-    rw behind at second ∙ ap (λ r. r ++ ended two) first ∙ append_assoc d (ended one) (ended two) ∙ ap (λ r. d ++ r) (sym (ended-append one two) ∙ ap ended (sym (numbered-both line f g xs ys))) in
-    section-written (codes "Elements") (numbered line (map f xs ++ map g ys)) count a b c d h all header number feed body
+    let one : List (List ℕ) = item_lines (λ n x. line n (f x)) xs in
+    let two : List (List ℕ) = item_lines (λ n y. line (length xs + n) (g y)) ys in
+    let all : length (item_lines line (map f xs ++ map g ys)) ≡ count = length-item_lines line (map f xs ++ map g ys) ∙ both_lengths f g xs ys ∙ counted in
+    let body : h ≡ d ++ ended (item_lines line (map f xs ++ map g ys)) =
+    rw behind at second ∙ ap (λ r. r ++ ended two) first ∙ append_assoc d (ended one) (ended two) ∙ ap (λ r. d ++ r) (sym (ended-append one two) ∙ ap ended (sym (item_lines-both line f g xs ys))) in
+    section-written (codes "Elements") (item_lines line (map f xs ++ map g ys)) count a b c d h all header number feed body
 
 -- where there are no names their section is left out
 pub no-names : (names : List GroupName) (a : List ℕ) → eqb (length names) 0 ≡ true → a ≡ a ++ ended (names_lines names)
@@ -168,22 +168,22 @@ some-names (name ∷ names) some = refl
 
 -- the text up to the elements, written section by section
 pub head-written : (names : List GroupName) (nodes : List Coordinates) (a b c d : List ℕ) → a ≡ [] → b ≡ a ++ flat_map (λ line. line ++ 10 ∷ []) format_lines → c ≡ b ++ ended (names_lines names)
-    → d ≡ c ++ ended (counted_section (codes "Nodes") (numbered node_line nodes)) → d ≡ ended (head_lines names nodes)
+    → d ≡ c ++ ended (counted_section (codes "Nodes") (item_lines node_line nodes)) → d ≡ ended (head_lines names nodes)
 unfolding ended
 head-written names nodes a b c d start format named listed =
-    let nodes_part : List (List ℕ) = counted_section (codes "Nodes") (numbered node_line nodes) in
+    let nodes_part : List (List ℕ) = counted_section (codes "Nodes") (item_lines node_line nodes) in
     listed ∙ ap (λ r. r ++ ended nodes_part) (named ∙ ap (λ r. r ++ ended (names_lines names)) (format ∙ ap (λ r. r ++ ended format_lines) start) ∙ sym (ended-append format_lines (names_lines names)))
     ∙ sym (ended-append (format_lines ++ names_lines names) nodes_part)
 
 -- the whole text
 pub text-written : (names : List GroupName) (tets : List Tetrahedron) (elements items : List Element) (first second : List Coordinates) (b d : List ℕ)
     → first ≡ nodes_of tets → second ≡ nodes_of tets → items ≡ elements → b ≡ ended (head_lines names first)
-    → d ≡ b ++ ended (counted_section (codes "Elements") (numbered (element_line second) items)) → d ≡ text_with names tets elements
+    → d ≡ b ++ ended (counted_section (codes "Elements") (item_lines (element_line second) items)) → d ≡ text_with names tets elements
 unfolding text_with
 text-written names tets elements items first second b d first_is second_is items_is head rest =
-    let elements_part : List (List ℕ) = counted_section (codes "Elements") (numbered (element_line (nodes_of tets)) elements) in
+    let elements_part : List (List ℕ) = counted_section (codes "Elements") (item_lines (element_line (nodes_of tets)) elements) in
     rest
-    ∙ ap (λ nodes. b ++ ended (counted_section (codes "Elements") (numbered (element_line nodes) items))) second_is
-    ∙ ap (λ es. b ++ ended (counted_section (codes "Elements") (numbered (element_line (nodes_of tets)) es))) items_is
+    ∙ ap (λ nodes. b ++ ended (counted_section (codes "Elements") (item_lines (element_line nodes) items))) second_is
+    ∙ ap (λ es. b ++ ended (counted_section (codes "Elements") (item_lines (element_line (nodes_of tets)) es))) items_is
     ∙ ap (λ r. r ++ ended elements_part) (head ∙ ap (λ nodes. ended (head_lines names nodes)) first_is)
     ∙ sym (ended-append (head_lines names (nodes_of tets)) elements_part)

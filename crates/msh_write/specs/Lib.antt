@@ -1,4 +1,4 @@
-pub mod Holders
 pub mod PartText
 pub mod ReadsBack
 pub mod Text
+pub mod steps

@@ -25,8 +25,8 @@ member_cmp m n = ordering_then (tet_cmp m.0 n.0) (option_cmp nat_cmp m.1 n.1)
 abbrev pub members_of : View → List Member
 members_of view = ascending_of member_cmp (map (λ tet. (tet, None)) view.own ++ map (λ g. (g.0, Some g.1)) view.ghosts)
 
-abbrev pub tets_of : List Member → List Tetrahedron
-tets_of members = map (λ m. m.0) members
+abbrev pub tets_of_members : List Member → List Tetrahedron
+tets_of_members members = map (λ m. m.0) members
 
 -- 1 and the part, or 2, the part of a ghost, and the part whose view it is with a minus; parts count from 1 here
 abbrev pub member_tags : ℕ → Option ℕ → List ℤ
@@ -62,4 +62,4 @@ part_elements view =
     map (resident_element view.part members) (filter is_tagged view.marks) ++ map (member_element view.part) members
 
 abbrev pub part_text : View → List GroupName → List ℕ
-part_text view names = text_with names (tets_of (members_of view)) (part_elements view)
+part_text view names = text_with names (tets_of_members (members_of view)) (part_elements view)

@@ -70,15 +70,15 @@ TextReadsBack = (mesh : Batch) (names : List GroupName) → ReadsBack mesh names
 -- ---- what is read, as tetrahedra and marks again
 
 -- the places at these positions
-abbrev pub places_at : List Coordinates → List ℕ → List Coordinates
-places_at nodes at = map (node_at nodes) at
+abbrev pub corners_at : List Coordinates → List ℕ → List Coordinates
+corners_at nodes at = map (node_at nodes) at
 
 -- the tetrahedra that a file has, where it has any with these corners
 abbrev pub tets_in : Raw → List (Option Tetrahedron)
-tets_in raw = map (λ tet. tetrahedron_of (places_at raw.nodes tet.at) tet.phys tet.elem) raw.tets
+tets_in raw = map (λ tet. tetrahedron_of (corners_at raw.nodes tet.at) tet.phys tet.elem) raw.tets
 
 abbrev pub marks_in : Raw → List (Option CellMark)
-marks_in raw = map (λ mark. mark_on (places_at raw.nodes mark.at.items) mark.phys mark.elem) raw.marks
+marks_in raw = map (λ mark. mark_on (corners_at raw.nodes mark.at.items) mark.phys mark.elem) raw.marks
 
 -- They are those of the mesh, where a mark with the tag 0 0 is left out.
 pub record IsMeshAgain (mesh : Batch) (raw : Raw) : Type 0 where

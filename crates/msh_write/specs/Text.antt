@@ -18,8 +18,8 @@ abbrev pub line_of : List (List ℕ) → List ℕ
 line_of = join_with_byte 32
 
 -- the lines of these items, which are numbered from 1
-abbrev pub numbered : {X : Type 0} → (ℕ → X → List ℕ) → List X → List (List ℕ)
-numbered line items = map (λ e. line e.0 e.1) (enumerate_from 1 items)
+abbrev pub item_lines : {X : Type 0} → (ℕ → X → List ℕ) → List X → List (List ℕ)
+item_lines line items = map (λ e. line e.0 e.1) (enumerate_from 1 items)
 
 -- a section that counts its lines
 abbrev pub counted_section : List ℕ → List (List ℕ) → List (List ℕ)
@@ -89,13 +89,13 @@ is_tagged mark = not (int_eq mark.phys (pos 0) && int_eq mark.elem (pos 0))
 
 -- the lines up to the elements
 abbrev pub head_lines : List GroupName → List Coordinates → List (List ℕ)
-head_lines names nodes = format_lines ++ names_lines names ++ counted_section (codes "Nodes") (numbered node_line nodes)
+head_lines names nodes = format_lines ++ names_lines names ++ counted_section (codes "Nodes") (item_lines node_line nodes)
 
 -- the text with these names, with the corners of these tetrahedra as nodes, and with these elements
 unfoldable pub text_with : List GroupName → List Tetrahedron → List Element → List ℕ
 text_with names tets elements =
     let nodes = nodes_of tets in
-    ended (head_lines names nodes ++ counted_section (codes "Elements") (numbered (element_line nodes) elements))
+    ended (head_lines names nodes ++ counted_section (codes "Elements") (item_lines (element_line nodes) elements))
 
 -- the marks, and behind them the tetrahedra, each with the tags phys and elem alone
 abbrev pub elements_of : Batch → List Element

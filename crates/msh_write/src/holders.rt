@@ -7,7 +7,7 @@ ghost use Rattle.std.specs.Option.{unwrap_or};
 ghost use Rattle.std.specs.Ordering.{eq_by_cmp, nat_cmp};
 ghost use Rattle.ma_cells.specs.Ascending.{ascending_of, has};
 ghost use Rattle.ma_cells.specs.Cells.{cell_cmp};
-ghost use Rattle.msh_write.specs.Holders.{holder_cmp, holders_by, holders_of, is_among, is_of, marked_cells};
+ghost use Rattle.msh_write.specs.steps.Holders.{holder_cmp, holders_by, holders_of, is_among, is_of, marked_cells};
 
 use crate::members::Member;
 use ma_cells::{Ascending, Cell, Label, Mark};

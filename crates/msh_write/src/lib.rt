@@ -12,9 +12,9 @@ mod union;
 mod words;
 
 pub use elements::is_tagged;
-pub use nodes::node_count;
+pub use nodes::{node_count, nodes_of};
 pub use part::write_part;
-pub use union::write_union;
+pub use union::{write_union, write_union_with};
 
 #[cfg(test)]
 mod tests;

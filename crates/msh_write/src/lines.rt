@@ -1,6 +1,6 @@
 // The format, the names and the nodes, which stand before the elements in a text.
 ghost use Rattle.std.specs.Prelude.{◌≡◌, ◌++◌, IfOk, OnOk, codes, map};
-ghost use Rattle.msh_write.specs.Text.{counted_section, ended, head_lines, name_line, names_lines, node_line, numbered};
+ghost use Rattle.msh_write.specs.Text.{counted_section, ended, head_lines, name_line, names_lines, node_line, item_lines};
 
 use crate::words::{put_bytes, put_number, put_word};
 use ma_geom::{Memory, Place};
@@ -50,7 +50,7 @@ fn put_node_line(out: &mut Vec<u8>, number: usize, node: Place) -> Result<(), Me
 }
 
 fn put_node_lines(out: &mut Vec<u8>, nodes: &[Place]) -> Result<(), Memory>
-    ensures { OnOk result (out.new.items ≡ out.old.items ++ ended (numbered node_line nodes.now)) }
+    ensures { OnOk result (out.new.items ≡ out.old.items ++ ended (item_lines node_line nodes.now)) }
 {
     for (index, node) in nodes.iter().enumerate() {
         put_node_line(out, index + 1, *node)?;
@@ -59,7 +59,7 @@ fn put_node_lines(out: &mut Vec<u8>, nodes: &[Place]) -> Result<(), Memory>
 }
 
 fn put_nodes(out: &mut Vec<u8>, nodes: &[Place]) -> Result<(), Memory>
-    ensures { OnOk result (out.new.items ≡ out.old.items ++ ended (counted_section (codes "Nodes") (numbered node_line nodes.now))) }
+    ensures { OnOk result (out.new.items ≡ out.old.items ++ ended (counted_section (codes "Nodes") (item_lines node_line nodes.now))) }
 {
     put_bytes(out, b"$Nodes\n")?;
     put_number(out, nodes.len())?;

@@ -1,6 +1,6 @@
 // The tetrahedra of a view, its own and the ghosts together.
 ghost use Rattle.std.specs.Prelude.{◌≡◌, ◌++◌, IfOk, None, OnOk, Some, map};
-ghost use Rattle.msh_write.specs.PartText.{members_of, tets_of};
+ghost use Rattle.msh_write.specs.PartText.{members_of, tets_of_members};
 
 use ma_cells::{Ascending, Label, Tet, View};
 use ma_geom::Memory;
@@ -39,7 +39,7 @@ pub(crate) fn members(alloc: Global, view: &View) -> Result<Ascending<Member>, M
 
 /// The tetrahedra alone.
 pub(crate) fn tets(alloc: Global, members: &[Member]) -> Result<Vec<Tet>, Memory>
-    ensures { IfOk result (λ tets. tets.items ≡ tets_of members.now) }
+    ensures { IfOk result (λ tets. tets.items ≡ tets_of_members members.now) }
 {
     let mut tets = Vec::new(alloc);
     for member in members {

@@ -10,7 +10,7 @@ use ma_geom::{Memory, Place};
 use std::alloc::Global;
 
 /// The nodes of a mesh with these tetrahedra.
-pub(crate) fn nodes(alloc: Global, tets: &[Tet]) -> Result<Ascending<Place>, Memory>
+pub fn nodes_of(alloc: Global, tets: &[Tet]) -> Result<Ascending<Place>, Memory>
     ensures nodes { IfOk result (λ nodes. nodes ≡ nodes_of tets.now) }
     ensures corners { IfOk result (λ _. All (λ t. are_ascending place_cmp t.corners ≡ true) tets.now) }
 {
@@ -25,7 +25,7 @@ pub(crate) fn nodes(alloc: Global, tets: &[Tet]) -> Result<Ascending<Place>, Mem
 pub fn node_count(alloc: Global, tets: &[Tet]) -> Result<usize, Memory>
     ensures { IfOk result (λ count. count ≡ length (nodes_of tets.now)) }
 {
-    let nodes = nodes(alloc, tets)?;
+    let nodes = nodes_of(alloc, tets)?;
     Ok(nodes.len())
 }
 

@@ -5,15 +5,15 @@ ghost use Rattle.std.specs.Ordering.{nat_cmp};
 ghost use Rattle.ma_geom.specs.Coordinates.{place_cmp};
 ghost use Rattle.ma_cells.specs.Ascending.{are_ascending};
 ghost use Rattle.ma_cells.specs.Cells.{corners_of, is_cell};
-ghost use Rattle.msh_write.specs.Holders.{holder_cmp, holder_element, holder_tags};
-ghost use Rattle.msh_write.specs.PartText.{member_element, part_text, resident_element, resident_tags, tets_of};
-ghost use Rattle.msh_write.specs.Text.{counted_section, element_line, ended, nodes_of, numbered};
+ghost use Rattle.msh_write.specs.steps.Holders.{holder_cmp, holder_element, holder_tags};
+ghost use Rattle.msh_write.specs.PartText.{member_element, part_text, resident_element, resident_tags, tets_of_members};
+ghost use Rattle.msh_write.specs.Text.{counted_section, element_line, ended, nodes_of, item_lines};
 
 use crate::elements::{put_cell, put_tet, tagged};
 use crate::holders::{Holder, first_holder, holders, marked_cells, residents};
 use crate::lines::head;
 use crate::members::{Member, members, tets};
-use crate::nodes::nodes;
+use crate::nodes::nodes_of;
 use crate::words::{put_bytes, put_number};
 use ma_cells::{Cell, Label, Mark, View};
 use ma_geom::{Memory, Place};
@@ -64,8 +64,8 @@ fn put_members(
 ) -> Result<(), Memory>
     requires few { before < 2 ^ 63 }
     requires rises { IsStrictlySortedBy place_cmp nodes.now }
-    requires nodes { nodes.now ≡ nodes_of (tets_of members.now) }
-    ensures { OnOk result (out.new.items ≡ out.old.items ++ ended (numbered (λ number member. element_line nodes.now (before + number) (member_element part member)) members.now)) }
+    requires nodes { nodes.now ≡ nodes_of (tets_of_members members.now) }
+    ensures { OnOk result (out.new.items ≡ out.old.items ++ ended (item_lines (λ number member. element_line nodes.now (before + number) (member_element part member)) members.now)) }
 {
     for (index, member) in members.iter().enumerate() {
         put_member(out, nodes, part, before + (index + 1), member)?;
@@ -155,7 +155,7 @@ fn put_mark_lines(
 ) -> Result<(), Memory>
     requires rises { IsStrictlySortedBy place_cmp nodes.now }
     requires holders { IsStrictlySortedBy holder_cmp holders.now }
-    ensures lines { OnOk result (out.new.items ≡ out.old.items ++ ended (numbered (λ number mark. element_line nodes.now number (holder_element part holders.now mark)) marks.now)) }
+    ensures lines { OnOk result (out.new.items ≡ out.old.items ++ ended (item_lines (λ number mark. element_line nodes.now number (holder_element part holders.now mark)) marks.now)) }
     ensures cells { OnOk result (All (λ mark. is_cell mark.cell ≡ true) marks.now) }
 {
     for (index, mark) in marks.iter().enumerate() {
@@ -174,7 +174,7 @@ fn put_marks(
 ) -> Result<(), Memory>
     requires rises { IsStrictlySortedBy place_cmp nodes.now }
     requires corners { All (λ m. are_ascending place_cmp m.0.corners ≡ true) members.now }
-    ensures { OnOk result (out.new.items ≡ out.old.items ++ ended (numbered (λ number mark. element_line nodes.now number (resident_element part members.now mark)) marks.now)) }
+    ensures { OnOk result (out.new.items ≡ out.old.items ++ ended (item_lines (λ number mark. element_line nodes.now number (resident_element part members.now mark)) marks.now)) }
 {
     if marks.is_empty() {
         return Ok(());
@@ -193,9 +193,9 @@ fn put_elements(
     marks: &[Mark],
 ) -> Result<(), Memory>
     requires rises { IsStrictlySortedBy place_cmp nodes.now }
-    requires nodes { nodes.now ≡ nodes_of (tets_of members.now) }
+    requires nodes { nodes.now ≡ nodes_of (tets_of_members members.now) }
     requires corners { All (λ m. are_ascending place_cmp m.0.corners ≡ true) members.now }
-    ensures { OnOk result (out.new.items ≡ out.old.items ++ ended (counted_section (codes "Elements") (numbered (element_line nodes.now) (map (resident_element part members.now) marks.now ++ map (member_element part) members.now)))) }
+    ensures { OnOk result (out.new.items ≡ out.old.items ++ ended (counted_section (codes "Elements") (item_lines (element_line nodes.now) (map (resident_element part members.now) marks.now ++ map (member_element part) members.now)))) }
 {
     put_bytes(out, b"$Elements\n")?;
     put_number(out, marks.len() + members.len())?;
@@ -212,7 +212,7 @@ pub fn write_part(alloc: Global, view: &View, names: &[Name]) -> Result<Vec<u8>,
 {
     let members = members(alloc, view)?;
     let tets = tets(alloc, members.as_slice())?;
-    let nodes = nodes(alloc, tets.as_slice())?;
+    let nodes = nodes_of(alloc, tets.as_slice())?;
     let marks = tagged(alloc, view.marks.as_slice())?;
     let mut out = head(alloc, names, nodes.as_slice())?;
     put_elements(

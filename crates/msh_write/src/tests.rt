@@ -117,8 +117,21 @@ $EndElements
 }
 
 #[test]
-fn no_tetrahedra_make_two_empty_sections(rt: HostRuntime) -> Result<(), Fail> {
-    let written = union_text(rt.alloc(), &[], &[], &[])?;
+fn the_nodes_are_the_corners_in_order(rt: HostRuntime) -> Result<(), Fail> {
+    let at = two_tetrahedra()?;
+    let nodes = nodes_of(rt.alloc(), &[at.outer, at.inner])?;
+    assert!(rt; nodes.as_slice() == [at.o, at.z, at.y, at.x, at.w].as_slice());
+    Ok(())
+}
+
+#[test]
+fn a_part_without_tetrahedra_has_two_empty_sections(rt: HostRuntime) -> Result<(), Fail> {
+    let (own, ghosts, marks) = (
+        Vec::new(rt.alloc()),
+        Vec::new(rt.alloc()),
+        Vec::new(rt.alloc()),
+    );
+    let written = part_text(rt.alloc(), &View::gather(1, own, ghosts, marks))?;
     let wanted = b"$MeshFormat
 2.2 0 8
 $EndMeshFormat
@@ -127,6 +140,36 @@ $Nodes
 $EndNodes
 $Elements
 0
+$EndElements
+";
+    assert_eq!(rt; written.as_slice(), wanted.as_slice());
+    Ok(())
+}
+
+#[test]
+fn a_ghost_tells_its_part_and_the_part_that_sees_it(rt: HostRuntime) -> Result<(), Fail> {
+    let at = two_tetrahedra()?;
+    let own = vec![in rt.alloc(); at.outer]?;
+    let ghosts = vec![in rt.alloc(); (at.inner, 0)]?;
+    let written = part_text(
+        rt.alloc(),
+        &View::gather(1, own, ghosts, Vec::new(rt.alloc())),
+    )?;
+    let wanted = b"$MeshFormat
+2.2 0 8
+$EndMeshFormat
+$Nodes
+5
+1 0 0 0
+2 0 0 8
+3 0 8 0
+4 8 0 0
+5 8 8 8
+$EndNodes
+$Elements
+2
+1 4 5 0 1 2 1 -2 1 2 4 3
+2 4 4 0 1 1 2 2 3 5 4
 $EndElements
 ";
     assert_eq!(rt; written.as_slice(), wanted.as_slice());
@@ -165,64 +208,6 @@ $Elements
 4 2 5 2 0 2 1 2 2 3 4
 5 4 5 0 1 2 1 -2 1 2 4 3
 6 4 4 0 1 1 2 2 3 5 4
-$EndElements
-";
-    assert_eq!(rt; written.as_slice(), wanted.as_slice());
-    Ok(())
-}
-
-#[test]
-fn of_equal_tetrahedra_the_own_one_is_first(rt: HostRuntime) -> Result<(), Fail> {
-    let at = two_tetrahedra()?;
-    let marks = vec![in rt.alloc(); mark(&[at.o, at.x], 0, 5)?]?;
-    let own = vec![in rt.alloc(); at.inner]?;
-    let ghosts = vec![in rt.alloc(); (at.inner, 3), (at.inner, 2)]?;
-    let written = part_text(rt.alloc(), &View::gather(0, own, ghosts, marks))?;
-    let wanted = b"$MeshFormat
-2.2 0 8
-$EndMeshFormat
-$Nodes
-4
-1 0 0 0
-2 0 0 8
-3 0 8 0
-4 8 0 0
-$EndNodes
-$Elements
-4
-1 1 6 0 5 3 1 3 4 1 4
-2 4 4 0 1 1 1 1 2 4 3
-3 4 5 0 1 2 3 -1 1 2 4 3
-4 4 5 0 1 2 4 -1 1 2 4 3
-$EndElements
-";
-    assert_eq!(rt; written.as_slice(), wanted.as_slice());
-    Ok(())
-}
-
-#[test]
-fn a_part_alone_is_the_only_resident(rt: HostRuntime) -> Result<(), Fail> {
-    let at = two_tetrahedra()?;
-    let marks = vec![in rt.alloc(); mark(&[at.o, at.x], 0, 5)?]?;
-    let own = vec![in rt.alloc(); at.inner]?;
-    let written = part_text(
-        rt.alloc(),
-        &View::gather(0, own, Vec::new(rt.alloc()), marks),
-    )?;
-    let wanted = b"$MeshFormat
-2.2 0 8
-$EndMeshFormat
-$Nodes
-4
-1 0 0 0
-2 0 0 8
-3 0 8 0
-4 8 0 0
-$EndNodes
-$Elements
-2
-1 1 4 0 5 1 1 1 4
-2 4 4 0 1 1 1 1 2 4 3
 $EndElements
 ";
     assert_eq!(rt; written.as_slice(), wanted.as_slice());

@@ -4,13 +4,13 @@ ghost use Rattle.std.specs.List.Sorted.{IsStrictlySortedBy};
 ghost use Rattle.ma_geom.specs.Coordinates.{place_cmp};
 ghost use Rattle.ma_cells.specs.Cells.{corners_of};
 ghost use Rattle.msh_write.specs.ReadsBack.{ReadsBack};
-ghost use Rattle.msh_write.specs.Text.{counted_section, element_line, elements_of, ended, is_tagged, mark_element, nodes_of, numbered, tet_element, text_of};
+ghost use Rattle.msh_write.specs.Text.{counted_section, element_line, elements_of, ended, is_tagged, mark_element, nodes_of, item_lines, tet_element, text_of};
 
 use crate::elements::{put_cell, put_tet, tagged};
 use crate::lines::head;
-use crate::nodes::nodes;
+use crate::nodes::nodes_of;
 use crate::words::{put_bytes, put_number};
-use ma_cells::{Batch, Mark, Tet};
+use ma_cells::{Ascending, Batch, Mark, Tet};
 use ma_geom::{Memory, Place};
 use msh_read::Name;
 use std::alloc::Global;
@@ -31,7 +31,7 @@ fn put_plain_tet(out: &mut Vec<u8>, nodes: &[Place], number: usize, tet: Tet) ->
 
 fn put_marks(out: &mut Vec<u8>, nodes: &[Place], marks: &[Mark]) -> Result<(), Memory>
     requires { IsStrictlySortedBy place_cmp nodes.now }
-    ensures { OnOk result (out.new.items ≡ out.old.items ++ ended (numbered (λ number mark. element_line nodes.now number (mark_element [] mark)) marks.now)) }
+    ensures { OnOk result (out.new.items ≡ out.old.items ++ ended (item_lines (λ number mark. element_line nodes.now number (mark_element [] mark)) marks.now)) }
 {
     for (index, mark) in marks.iter().enumerate() {
         put_mark(out, nodes, index + 1, mark)?;
@@ -44,7 +44,7 @@ fn put_tets(out: &mut Vec<u8>, nodes: &[Place], before: usize, tets: &[Tet]) -> 
     requires few { before < 2 ^ 63 }
     requires rises { IsStrictlySortedBy place_cmp nodes.now }
     requires nodes { nodes.now ≡ nodes_of tets.now }
-    ensures { OnOk result (out.new.items ≡ out.old.items ++ ended (numbered (λ number tet. element_line nodes.now (before + number) (tet_element [] tet)) tets.now)) }
+    ensures { OnOk result (out.new.items ≡ out.old.items ++ ended (item_lines (λ number tet. element_line nodes.now (before + number) (tet_element [] tet)) tets.now)) }
 {
     for (index, tet) in tets.iter().enumerate() {
         put_plain_tet(out, nodes, before + (index + 1), *tet)?;
@@ -60,7 +60,7 @@ fn put_elements(
 ) -> Result<(), Memory>
     requires rises { IsStrictlySortedBy place_cmp nodes.now }
     requires nodes { nodes.now ≡ nodes_of tets.now }
-    ensures { OnOk result (out.new.items ≡ out.old.items ++ ended (counted_section (codes "Elements") (numbered (element_line nodes.now) (map (mark_element []) marks.now ++ map (tet_element []) tets.now)))) }
+    ensures { OnOk result (out.new.items ≡ out.old.items ++ ended (counted_section (codes "Elements") (item_lines (element_line nodes.now) (map (mark_element []) marks.now ++ map (tet_element []) tets.now)))) }
 {
     put_bytes(out, b"$Elements\n")?;
     put_number(out, marks.len() + tets.len())?;
@@ -70,13 +70,18 @@ fn put_elements(
     put_bytes(out, b"$EndElements\n")
 }
 
-/// The canonical text of a mesh with these names, which reads as this mesh. A mark names a corner that
-/// no tetrahedron has by the number behind that of the last node.
-pub fn write_union(alloc: Global, mesh: &Batch, names: &[Name]) -> Result<Vec<u8>, Memory>
+/// The canonical text of a mesh with these names, which reads as this mesh, where the nodes of the mesh
+/// are known. A mark names a corner that no tetrahedron has by the number behind that of the last node.
+pub fn write_union_with(
+    alloc: Global,
+    mesh: &Batch,
+    nodes: &Ascending<Place>,
+    names: &[Name],
+) -> Result<Vec<u8>, Memory>
+    requires { nodes.now ≡ nodes_of mesh.now.tets }
     ensures text { IfOk result (λ bytes. bytes.items ≡ text_of mesh.now names.now) }
     ensures reads_back { IfOk result (λ bytes. ReadsBack mesh.now names.now bytes.items) }
 {
-    let nodes = nodes(alloc, mesh.tets.as_slice())?;
     let marks = tagged(alloc, mesh.marks.as_slice())?;
     let mut out = head(alloc, names, nodes.as_slice())?;
     put_elements(
@@ -86,4 +91,13 @@ pub fn write_union(alloc: Global, mesh: &Batch, names: &[Name]) -> Result<Vec<u8
         mesh.tets.as_slice(),
     )?;
     Ok(out)
+}
+
+/// The same, where the nodes are still to be found.
+pub fn write_union(alloc: Global, mesh: &Batch, names: &[Name]) -> Result<Vec<u8>, Memory>
+    ensures text { IfOk result (λ bytes. bytes.items ≡ text_of mesh.now names.now) }
+    ensures reads_back { IfOk result (λ bytes. ReadsBack mesh.now names.now bytes.items) }
+{
+    let nodes = nodes_of(alloc, mesh.tets.as_slice())?;
+    write_union_with(alloc, mesh, &nodes, names)
 }

@@ -4,7 +4,7 @@ use Rattle.std.proofs.lemmas.Int.{to_z-of_z}
 use Rattle.std.proofs.lemmas.Result.{err_from_is_err_and}
 use Rattle.msh_read.specs.ElementLines.{position_of}
 use Rattle.msh_read.specs.Steps.{each}
-use Rattle.msh_read.proofs.ElementNumbers.{walks_on, stops}
+use Rattle.msh_read.proofs.ElementNumbers.{walks_on, walk_stops}
 use Rattle.msh_read.proofs.elements.each_position.Goals as goal
 
 pub returns-in_err-position : goal.returns-in_err-position
@@ -12,7 +12,7 @@ returns-in_err-position c =
     let read = position_of c.args.known.now.keys in
     let fits : FitsSigned w64 (get_or c.args.nodes.now c.loop-node.node-index (pos 0)) = search rules in
     let p = err_from_is_err_and c.from_residual.result c.from_residual.ensures.1 in
-    rw (p.1, p.2) (stops read c.in_err-position.field-0.0 c.loop-node.at.items c.args.nodes.now c.loop-node.node-index (each read c.args.nodes.now) c.loop-node-test.true (simp to_z-of_z at c.in_err-position.ensures) c.loop-node.invariant.0)
+    rw (p.1, p.2) (walk_stops read c.in_err-position.field-0.0 c.loop-node.at.items c.args.nodes.now c.loop-node.node-index (each read c.args.nodes.now) c.loop-node-test.true (simp to_z-of_z at c.in_err-position.ensures) c.loop-node.invariant.0)
 
 pub loop-node-preserved : goal.loop-node-preserved
 loop-node-preserved c =

@@ -1,6 +1,6 @@
 use Rattle.std.proofs.Common.{◌≡◌, ◌++◌, map, take}
 use Rattle.std.specs.List.{filter}
-use Rattle.msh_write.specs.Holders.{is_among}
+use Rattle.msh_write.specs.steps.Holders.{is_among}
 use Rattle.msh_write.proofs.holders.add_cells.Given as goal
 
 abbrev pub invariant-loop-cell : goal.invariant-loop-cell

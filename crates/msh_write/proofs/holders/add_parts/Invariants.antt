@@ -1,7 +1,7 @@
 use Rattle.std.proofs.Common.{◌≡◌, ◌++◌, drop, map}
 use Rattle.std.specs.List.{take_while}
 use Rattle.std.specs.Option.{unwrap_or}
-use Rattle.msh_write.specs.Holders.{is_of}
+use Rattle.msh_write.specs.steps.Holders.{is_of}
 use Rattle.msh_write.proofs.holders.add_parts.Given as goal
 
 abbrev pub invariant-loop-held : goal.invariant-loop-held

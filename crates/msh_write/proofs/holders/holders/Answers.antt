@@ -2,7 +2,7 @@ use Rattle.std.proofs.Common.{◌∙◌, ap, arith, flat_map, subst, sym}
 use Rattle.std.specs.FinMap.{IsAntisymmetric}
 use Rattle.std.proofs.lemmas.List.{take_all}
 use Rattle.ma_cells.specs.Ascending.{ascending_of}
-use Rattle.msh_write.specs.Holders.{holder_cmp, holders_by}
+use Rattle.msh_write.specs.steps.Holders.{holder_cmp, holders_by}
 use Rattle.msh_write.proofs.Holding.{derived_holder_cmp, holder_cmp-IsAntisymmetric}
 use Rattle.msh_write.proofs.holders.holders.Goals as goal
 

@@ -1,5 +1,5 @@
 use Rattle.std.proofs.Common.{◌≡◌, flat_map, take}
-use Rattle.msh_write.specs.Holders.{holders_by}
+use Rattle.msh_write.specs.steps.Holders.{holders_by}
 use Rattle.msh_write.proofs.holders.holders.Given as goal
 
 abbrev pub invariant-loop-member : goal.invariant-loop-member

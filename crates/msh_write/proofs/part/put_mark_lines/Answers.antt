@@ -2,7 +2,7 @@ use Rattle.std.proofs.Common.{◌≡◌, ℕ, List, All, true, subst, arith}
 use Rattle.std.proofs.lemmas.List.{take_all}
 use Rattle.std.proofs.lemmas.List.Elements.{All-more}
 use Rattle.ma_cells.specs.Cells.{CellMark, is_cell}
-use Rattle.msh_write.specs.Holders.{holder_element}
+use Rattle.msh_write.specs.steps.Holders.{holder_element}
 use Rattle.msh_write.specs.Text.{element_line}
 use Rattle.msh_write.proofs.TextLines.{lines-end, lines-step}
 use Rattle.msh_write.proofs.part.put_mark_lines.Goals as goal

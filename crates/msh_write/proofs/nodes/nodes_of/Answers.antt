@@ -6,7 +6,7 @@ use Rattle.ma_geom.proofs.PlaceOrder.{place_cmp-IsAntisymmetric}
 use Rattle.ma_cells.specs.Ascending.{are_ascending, ascending_of}
 use Rattle.ma_cells.proofs.Corners.{corners_rise}
 use Rattle.msh_write.proofs.Sets.{collected}
-use Rattle.msh_write.proofs.nodes.nodes.Goals as goal
+use Rattle.msh_write.proofs.nodes.nodes_of.Goals as goal
 
 pub loop-tet-preserved : goal.loop-tet-preserved
 loop-tet-preserved c =

@@ -1,4 +1,4 @@
--- What the lines of a front of a file say.
+-- Steps of the code and no promise: what the lines of a front of a file say.
 use Rattle.std.specs.Prelude.{ℕ, Bool, false, ℤ, List, []}
 use Rattle.ma_geom.specs.Coordinates.{Coordinates}
 use Rattle.msh_read.specs.GroupNames.{GroupName}

@@ -1,4 +1,4 @@
--- The cells of tetrahedra that are marked, each with who has it. No text is told by these: they serve the code that writes the text of a view.
+-- Steps of the code and no promise: the marked cells of tetrahedra, each with who has it.
 use Rattle.std.specs.Prelude.{ℕ, ℤ, Bool, if◌then◌else◌, List, [], Option, None, map}
 use Rattle.std.specs.declared.cmp.Ordering.{Ordering}
 use Rattle.std.specs.List.{filter, flat_map}

@@ -1,7 +1,7 @@
 use Rattle.std.proofs.Common.{◌≡◌, true, All, flat_map, take}
 use Rattle.ma_geom.specs.Coordinates.{place_cmp}
 use Rattle.ma_cells.specs.Ascending.{are_ascending}
-use Rattle.msh_write.proofs.nodes.nodes.Given as goal
+use Rattle.msh_write.proofs.nodes.nodes_of.Given as goal
 
 abbrev pub invariant-loop-tet : goal.invariant-loop-tet
 invariant-loop-tet l = record {

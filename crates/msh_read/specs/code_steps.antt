@@ -1,0 +1,4 @@
+pub mod Front
+pub mod LineAnswers
+pub mod LineByLine
+pub mod LinesRead
