@@ -11,7 +11,8 @@ use Rattle.std.proofs.lemmas.Bool.Decides.{nat_tests}
 use Rattle.std.proofs.lemmas.List.Elements.{recursion_from_All}
 use Rattle.std.proofs.lemmas.List.Recursion.{is_count_by}
 use Rattle.std.proofs.lemmas.List.Sorted.{list_any-IsPermutation, ranks_by, sorted_far, sum_by-IsPermutation}
-use Rattle.mesh_check.specs.Lone.{differs, first_of, lone, lone_after}
+use Rattle.mesh_check.specs.Lone.{lone}
+use Rattle.mesh_check.specs.steps.Neighbours.{differs, first_of, lone_after}
 
 -- how often an item stands in a list
 abbrev times : {K : Type 0} → (K → K → Ordering) → K → List K → ℕ

@@ -8,7 +8,7 @@ use Rattle.std.specs.List.{AllByRecursion, cons_option, filter_map, flat_map, li
 use Rattle.std.proofs.lemmas.List.{take_more}
 use Rattle.std.specs.Option.{is_none, option_and_then, option_map, option_to_list}
 use Rattle.msh_read.specs.declared.raw.RawMark.{RawMark}
-use Rattle.mesh_check.specs.Solids.{places_of}
+use Rattle.mesh_check.specs.steps.Tetrahedra.{places_of}
 use Rattle.std.proofs.lemmas.List.Elements.{filter_map-append}
 use Rattle.ma_geom.specs.Coordinates.{Coordinates}
 use Rattle.std.specs.Ordering.{eq_by_cmp}
@@ -24,7 +24,7 @@ use Rattle.ma_cells.specs.Incidence.{is_on}
 use Rattle.ma_cells.specs.Tetrahedron.{Tetrahedron}
 use Rattle.mesh_check.specs.Lone.{lone}
 use Rattle.mesh_check.specs.Marks.{outer_marks, side_cmp, sides_of}
-use Rattle.mesh_check.specs.FoundMarks.{kept_mark, moved_mark}
+use Rattle.mesh_check.specs.steps.FoundMarks.{kept_mark, shifted_mark}
 
 -- whether there is an item that passes
 abbrev pub passes : {Y : Type 0} → (Y → Bool) → Option Y → Bool
@@ -86,8 +86,8 @@ triple_is (a ∷ b ∷ c ∷ d ∷ xs) h k = absurd (omega arith)
 
 -- a mark whose places are these
 pub moved-from : (nodes : List Coordinates) (shift : ℕ) (mark : RawMark) (xs at : List ℕ) (corners : List Coordinates) (phys elem : ℤ) (moved : Option CellMark) → at ≡ xs → xs ≡ mark.at.items
-    → Some corners ≡ places_of nodes shift at → phys ≡ mark.phys → elem ≡ mark.elem → moved ≡ mark_on corners phys elem → moved ≡ moved_mark nodes shift mark
-unfolding moved_mark
+    → Some corners ≡ places_of nodes shift at → phys ≡ mark.phys → elem ≡ mark.elem → moved ≡ mark_on corners phys elem → moved ≡ shifted_mark nodes shift mark
+unfolding shifted_mark
 moved-from nodes shift mark xs at corners phys elem moved listed is found p e goes =
     rw (p, e) at goes
     ∙ ap (option_and_then (λ corners. mark_on corners mark.phys mark.elem)) found
@@ -102,14 +102,14 @@ set-is marks given same =
 -- ---- the marks of the file on cells of tetrahedra, and the number of the others
 -- what is kept of items that are found
 kept_filter : (test : Cell → Bool) (nodes : List Coordinates) (shift : ℕ) (marks : List RawMark)
-    → filter (λ m. test m.cell) (filter_map (moved_mark nodes shift) marks) ≡ filter_map (kept_mark test nodes shift) marks
+    → filter (λ m. test m.cell) (filter_map (shifted_mark nodes shift) marks) ≡ filter_map (kept_mark test nodes shift) marks
 kept_filter test nodes shift [] = refl
 kept_filter test nodes shift (mark ∷ marks) =
     let keep : CellMark → Option CellMark = λ m. cond (test m.cell) (Some m) None in
-    elim (moved_mark nodes shift mark) as (λ o. filter (λ m. test m.cell) (cons_option o (filter_map (moved_mark nodes shift) marks)) ≡ cons_option (option_and_then keep o) (filter_map (kept_mark test nodes shift) marks)) [
+    elim (shifted_mark nodes shift mark) as (λ o. filter (λ m. test m.cell) (cons_option o (filter_map (shifted_mark nodes shift) marks)) ≡ cons_option (option_and_then keep o) (filter_map (kept_mark test nodes shift) marks)) [
       | None ↦ kept_filter test nodes shift marks
       | Some m ↦
-          elim (test m.cell) as (λ b. cond b (m ∷ filter (λ n. test n.cell) (filter_map (moved_mark nodes shift) marks)) (filter (λ n. test n.cell) (filter_map (moved_mark nodes shift) marks))
+          elim (test m.cell) as (λ b. cond b (m ∷ filter (λ n. test n.cell) (filter_map (shifted_mark nodes shift) marks)) (filter (λ n. test n.cell) (filter_map (shifted_mark nodes shift) marks))
           ≡ cons_option (cond b (Some m) None) (filter_map (kept_mark test nodes shift) marks)) [
             | true ↦ ap (λ ms. m ∷ ms) (kept_filter test nodes shift marks)
             | false ↦ kept_filter test nodes shift marks
@@ -131,7 +131,7 @@ each_cell (m ∷ marks) = (
 )
 
 pub kept_are : (test : Cell → Bool) (nodes : List Coordinates) (shift : ℕ) (raw : List RawMark) (marks kept : List CellMark) (wanted : List Cell)
-    → marks ≡ filter_map (moved_mark nodes shift) raw → wanted ≡ ascending_of cell_cmp (map (λ mark. mark.cell) marks)
+    → marks ≡ filter_map (shifted_mark nodes shift) raw → wanted ≡ ascending_of cell_cmp (map (λ mark. mark.cell) marks)
     → kept ≡ filter (λ m. has cell_cmp m.cell wanted && test m.cell) marks → kept ≡ filter_map (kept_mark test nodes shift) raw
 kept_are test nodes shift raw marks kept wanted moved cells is =
     is
@@ -154,8 +154,8 @@ others_are h (x ∷ xs) =
     one_kept : (kept c rest n : ℕ) → c ≡ 0 + rest → kept + rest ≡ n → suc kept + c ≡ suc n
     one_kept kept c rest n e h = omega arith
 
-moved_cell : (nodes : List Coordinates) (shift : ℕ) (mark : RawMark) → IfSome (moved_mark nodes shift mark) (λ m. is_cell m.cell ≡ true)
-unfolding moved_mark
+moved_cell : (nodes : List Coordinates) (shift : ℕ) (mark : RawMark) → IfSome (shifted_mark nodes shift mark) (λ m. is_cell m.cell ≡ true)
+unfolding shifted_mark
 moved_cell nodes shift mark =
     let make : Cell → CellMark = λ cell. record { cell = cell; phys = mark.phys; elem = mark.elem } in
     elim (places_of nodes shift mark.at.items) as (λ found. IfSome (option_and_then (λ corners. option_map make (cell_of corners)) found) (λ m. is_cell m.cell ≡ true)) [
@@ -163,26 +163,26 @@ moved_cell nodes shift mark =
       | Some corners ↦ elim (cell_of corners) as (λ cell. IfSome cell (λ c. is_cell c ≡ true) → IfSome (option_map make cell) (λ m. is_cell m.cell ≡ true)) [ None ↦ λ _. tt | Some cell ↦ λ h. h ] (is_cell-of corners)
     ]
 
-cells_are_cells : (nodes : List Coordinates) (shift : ℕ) (raw : List RawMark) → AllByRecursion (λ (m : CellMark). is_cell m.cell ≡ true) (filter_map (moved_mark nodes shift) raw)
+cells_are_cells : (nodes : List Coordinates) (shift : ℕ) (raw : List RawMark) → AllByRecursion (λ (m : CellMark). is_cell m.cell ≡ true) (filter_map (shifted_mark nodes shift) raw)
 cells_are_cells nodes shift raw =
-    all-filter_map (λ (mark : RawMark). Unit {0}) (λ m. is_cell m.cell ≡ true) (moved_mark nodes shift) (λ mark _. moved_cell nodes shift mark) raw (all_anyway raw)
+    all-filter_map (λ (mark : RawMark). Unit {0}) (λ m. is_cell m.cell ≡ true) (shifted_mark nodes shift) (λ mark _. moved_cell nodes shift mark) raw (all_anyway raw)
 
 -- the cells that are looked for are cells
-pub are_wanted : (nodes : List Coordinates) (shift : ℕ) (raw : List RawMark) (marks : List CellMark) (wanted : List Cell) → marks ≡ filter_map (moved_mark nodes shift) raw
+pub are_wanted : (nodes : List Coordinates) (shift : ℕ) (raw : List RawMark) (marks : List CellMark) (wanted : List Cell) → marks ≡ filter_map (shifted_mark nodes shift) raw
     → wanted ≡ ascending_of cell_cmp (map (λ mark. mark.cell) marks) → list_all is_cell wanted ≡ true
 are_wanted nodes shift raw marks wanted moved cells =
-    rw (cells, moved) (test_all is_cell (ascending_of cell_cmp (map (λ mark. mark.cell) (filter_map (moved_mark nodes shift) raw)))
-    (all-ascending_of cell_cmp (λ cell. is_cell cell ≡ true) (map (λ mark. mark.cell) (filter_map (moved_mark nodes shift) raw))
-    (all-map (λ (m : CellMark). is_cell m.cell ≡ true) (λ cell. is_cell cell ≡ true) (λ mark. mark.cell) (λ m h. h) (filter_map (moved_mark nodes shift) raw) (cells_are_cells nodes shift raw))))
+    rw (cells, moved) (test_all is_cell (ascending_of cell_cmp (map (λ mark. mark.cell) (filter_map (shifted_mark nodes shift) raw)))
+    (all-ascending_of cell_cmp (λ cell. is_cell cell ≡ true) (map (λ mark. mark.cell) (filter_map (shifted_mark nodes shift) raw))
+    (all-map (λ (m : CellMark). is_cell m.cell ≡ true) (λ cell. is_cell cell ≡ true) (λ mark. mark.cell) (λ m h. h) (filter_map (shifted_mark nodes shift) raw) (cells_are_cells nodes shift raw))))
 
 -- the marks that are kept, where each list is read as a slice on the way
 pub marks_kept : (tets : List Tetrahedron) (shift : ℕ) (nodes nodes' : List Coordinates) (raw raw' : List RawMark) (marks marks' kept : List CellMark) (cells cells' cells'' : List Cell) (flags flags' : List Bool)
-    → nodes' ≡ nodes → raw' ≡ raw → marks ≡ filter_map (moved_mark nodes' shift) raw' → marks' ≡ marks → cells ≡ ascending_of cell_cmp (map (λ mark. mark.cell) marks')
+    → nodes' ≡ nodes → raw' ≡ raw → marks ≡ filter_map (shifted_mark nodes' shift) raw' → marks' ≡ marks → cells ≡ ascending_of cell_cmp (map (λ mark. mark.cell) marks')
     → cells' ≡ cells → flags ≡ map (is_on tets) cells' → cells'' ≡ cells → flags' ≡ flags
     → ((test : Cell → Bool) → flags' ≡ map test cells'' → kept ≡ filter (λ m. has cell_cmp m.cell cells'' && test m.cell) marks)
     → kept ≡ filter_map (kept_mark (is_on tets) nodes shift) raw
 marks_kept tets shift nodes nodes' raw raw' marks marks' kept cells cells' cells'' flags flags' n r moved m found first noted second read keep =
-    kept_are (is_on tets) nodes shift raw marks kept cells (moved ∙ ap (λ ns. filter_map (moved_mark ns shift) raw') n ∙ ap (filter_map (moved_mark nodes shift)) r)
+    kept_are (is_on tets) nodes shift raw marks kept cells (moved ∙ ap (λ ns. filter_map (shifted_mark ns shift) raw') n ∙ ap (filter_map (shifted_mark nodes shift)) r)
     (found ∙ ap (λ ms. ascending_of cell_cmp (map (λ mark. mark.cell) ms)) m)
     (keep (is_on tets) (read ∙ noted ∙ ap (map (is_on tets)) (first ∙ sym second)) ∙ ap (λ cs. filter (λ mk. has cell_cmp mk.cell cs && is_on tets mk.cell) marks) second)
 

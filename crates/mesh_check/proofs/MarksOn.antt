@@ -18,7 +18,7 @@ use Rattle.ma_cells.specs.declared.cell.Cell.{Cell}
 use Rattle.ma_cells.proofs.Choices.{all-append, all-choices}
 use Rattle.msh_read.specs.declared.raw.RawMark.{RawMark}
 use Rattle.msh_read.specs.Raw.{Raw}
-use Rattle.mesh_check.specs.FoundMarks.{found_marks, kept_mark, moved_mark}
+use Rattle.mesh_check.specs.steps.FoundMarks.{found_marks, kept_mark, shifted_mark}
 use Rattle.mesh_check.specs.Lone.{lone}
 use Rattle.ma_cells.specs.Incidence.{is_on}
 use Rattle.mesh_check.specs.Marks.{outer_marks, side_cmp, sides_of}
@@ -75,7 +75,7 @@ outer_on tets s on =
 pub marks_on_cells : (raw : Raw) (shift : ℕ) (tets : List Tetrahedron) → list_all (λ mark. is_on tets mark.cell) (found_marks raw shift tets) ≡ true
 marks_on_cells raw shift tets =
     let kept : List CellMark = filter_map (kept_mark (is_on tets) raw.nodes shift) raw.marks in
-    let kept_all = all-filter_map (λ (m : RawMark). Unit {0}) (On tets) (kept_mark (is_on tets) raw.nodes shift) (λ m _. kept_on (is_on tets) (moved_mark raw.nodes shift m)) raw.marks (all_anyway raw.marks) in
+    let kept_all = all-filter_map (λ (m : RawMark). Unit {0}) (On tets) (kept_mark (is_on tets) raw.nodes shift) (λ m _. kept_on (is_on tets) (shifted_mark raw.nodes shift m)) raw.marks (all_anyway raw.marks) in
     let sides = all-filter (SideOn tets) _ (flat_map sides_of tets) (sides_on tets) in
     let outer_all = all-filter_map (SideOn tets) (On tets) (λ side. mark_on side.0 (pos 0) (pos 0)) (outer_on tets) (lone side_cmp (flat_map sides_of tets)) sides in
     test_all (λ mark. is_on tets mark.cell) (found_marks raw shift tets) (all-ascending_of mark_cmp (On tets) (kept ++ outer_marks tets) (all-append (On tets) kept (outer_marks tets) kept_all outer_all))

@@ -7,10 +7,10 @@ ghost use Rattle.ma_cells.specs.Ascending.{ascending_of, has};
 ghost use Rattle.ma_cells.specs.Cells.{CellMark, cell_cmp, mark_cmp, mark_on};
 ghost use Rattle.ma_cells.specs.declared.cell.Cell.{Cell};
 ghost use Rattle.msh_read.specs.Raw.{raw};
-ghost use Rattle.mesh_check.specs.Solids.{places_of};
+ghost use Rattle.mesh_check.specs.steps.Tetrahedra.{places_of};
 ghost use Rattle.ma_cells.specs.Incidence.{is_on};
 ghost use Rattle.mesh_check.specs.Marks.{outer_marks, sides_of};
-ghost use Rattle.mesh_check.specs.FoundMarks.{kept_mark, found_loose, found_marks, moved_mark};
+ghost use Rattle.mesh_check.specs.steps.FoundMarks.{kept_mark, found_loose, found_marks, shifted_mark};
 
 use crate::cells::{found_on, is_found, marked_cells};
 use crate::lone::lone;
@@ -53,10 +53,10 @@ fn three_places(nodes: &[Place], shift: u32, a: u32, b: u32, c: u32) -> Option<[
 }
 
 /// A mark after the shift. None where two of its places are equal, or one is out of range.
-#[tactic(auto, unfolding(crate::specs::FoundMarks::moved_mark))]
-fn moved_mark(nodes: &[Place], shift: u32, mark: &RawMark) -> Option<Mark>
+#[tactic(auto, unfolding(crate::specs::steps::FoundMarks::shifted_mark))]
+fn shifted_mark(nodes: &[Place], shift: u32, mark: &RawMark) -> Option<Mark>
     requires { shift ≤ 30 }
-    ensures { result ≡ moved_mark nodes.now shift mark.now }
+    ensures { result ≡ shifted_mark nodes.now shift mark.now }
 {
     match mark.at.as_slice() {
         [a] => {
@@ -86,18 +86,18 @@ fn push_if_any(marks: &mut Vec<Mark>, mark: Option<Mark>) -> Result<(), Memory>
 }
 
 /// The marks after the shift.
-fn moved_marks(
+fn shifted_marks(
     alloc: Global,
     nodes: &[Place],
     shift: u32,
     marks: &[RawMark],
 ) -> Result<Vec<Mark>, Memory>
     requires { shift ≤ 30 }
-    ensures { IfOk result (λ moved. moved.items ≡ filter_map (moved_mark nodes.now shift) marks.now) }
+    ensures { IfOk result (λ moved. moved.items ≡ filter_map (shifted_mark nodes.now shift) marks.now) }
 {
     let mut moved = Vec::with_capacity(alloc, marks.len())?;
     for mark in marks {
-        push_if_any(&mut moved, moved_mark(nodes, shift, mark))?;
+        push_if_any(&mut moved, shifted_mark(nodes, shift, mark))?;
     }
     Ok(moved)
 }
@@ -176,7 +176,7 @@ fn marks_on(
     ensures loose { IfOk result (λ kept. kept.1 ≡ found_loose (raw mesh.now) shift tets.now) }
 {
     let marks = mesh.marks.as_slice();
-    let moved = moved_marks(alloc, mesh.nodes.as_slice(), shift, marks)?;
+    let moved = shifted_marks(alloc, mesh.nodes.as_slice(), shift, marks)?;
     let cells = marked_cells(alloc, moved.as_slice())?;
     let found = found_on(alloc, cells.as_slice(), tets)?;
     let kept = keep_found(moved, cells.as_slice(), found.as_slice());

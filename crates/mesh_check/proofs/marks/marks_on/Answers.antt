@@ -3,7 +3,7 @@ use Rattle.std.proofs.lemmas.List.{length-map}
 use Rattle.ma_cells.specs.Cells.{is_cell}
 use Rattle.ma_cells.specs.Incidence.{is_on}
 use Rattle.std.specs.List.{list_all}
-use Rattle.mesh_check.specs.FoundMarks.{kept_mark}
+use Rattle.mesh_check.specs.steps.FoundMarks.{kept_mark}
 use Rattle.mesh_check.proofs.Marking.{are_wanted, fewer_kept, marks_kept, others_counted}
 use Rattle.mesh_check.proofs.marks.marks_on.Goals as goal
 

@@ -1,7 +1,0 @@
-use Rattle.std.proofs.Common.{◌≡◌, take}
-use Rattle.std.specs.List.{filter_map}
-use Rattle.mesh_check.specs.FoundMarks.{moved_mark}
-use Rattle.mesh_check.proofs.marks.moved_marks.Given as goal
-
-abbrev pub invariant-loop-mark : goal.invariant-loop-mark
-invariant-loop-mark l = l.moved.items ≡ filter_map (moved_mark l.nodes l.shift) (take l.mark-index l.marks)
