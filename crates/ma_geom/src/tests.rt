@@ -1,6 +1,7 @@
 // Values that were worked out by hand.
 use super::*;
 use std::test::Fail;
+use vectors::Vector;
 
 const GREATEST: i32 = 1 << 30;
 
@@ -57,15 +58,16 @@ fn the_volume_changes_its_sign_with_the_order(rt: HostRuntime) -> Result<(), Fai
 }
 
 #[test]
-fn differences_and_minors_are_exact_at_the_ends_of_the_range(rt: HostRuntime) {
-    let most = exact::difference(GREATEST, -GREATEST);
-    assert_eq!(rt; most, 2147483648i128);
-    assert_eq!(rt; exact::product(most, -most), -4611686018427387904i128);
-    assert_eq!(rt;
-        exact::minor(most, -most, most, most),
-        9223372036854775808i128
-    );
-    assert_eq!(rt; exact::minor(1, 2, 3, 4), -2i128);
+fn a_cross_product_is_exact_at_the_ends_of_the_range(rt: HostRuntime) -> Result<(), Fail> {
+    let g = GREATEST;
+    let falling = Vector::from_to(place(0, -g, g)?, place(0, g, -g)?);
+    let rising = Vector::from_to(place(0, -g, -g)?, place(0, g, g)?);
+    let normal = falling.cross(&rising);
+    assert!(rt; !normal.is_zero() && rising.cross(&rising).is_zero());
+    assert_eq!(rt; normal.at(place(1, g, g)?), 9223372036854775808i128);
+    assert_eq!(rt; normal.along(&rising), 0i128);
+    assert_eq!(rt; falling.dot(&rising), 0i128);
+    Ok(())
 }
 
 fn triangle(
