@@ -2,7 +2,7 @@
 // A coordinate is at most 2^30 in absolute value, so a difference is at most 2^31, a product of two
 // at most 2^62, a minor of two rows of differences at most 2^63, and six times a volume at most
 // 3 * 2^94. Up to the products 64 bits do.
-ghost use Rattle.std.specs.Prelude.{◌≡◌, ◌≤◌, ◌*◌, ◌^◌, ◌+ℤ◌, ◌-ℤ◌, ◌*ℤ◌, unsigned_abs};
+ghost use Rattle.std.specs.Prelude.{◌≡◌, ◌≤◌, ◌*◌, ◌^◌, ◌+ℤ◌, ◌-ℤ◌, ◌*ℤ◌, pos, unsigned_abs};
 
 /// The difference of two coordinates.
 pub(crate) fn difference(a: i32, b: i32) -> i64
@@ -22,6 +22,15 @@ pub(crate) fn product(p: i64, q: i64) -> i64
     ensures bound { unsigned_abs result ≤ 2 ^ 62 }
 {
     p * q
+}
+
+/// The square of a difference.
+pub(crate) fn square(d: i64) -> u64
+    requires { unsigned_abs d ≤ 2 ^ 31 }
+    ensures value { pos result ≡ d *ℤ d }
+    ensures bound { result ≤ 2 ^ 62 }
+{
+    product(d, d).unsigned_abs()
 }
 
 /// The determinant of two rows of differences, `p * s - q * r`.

@@ -12,7 +12,7 @@ mod signs;
 mod turns;
 pub mod vectors;
 
-pub use lengths::len2;
+pub use lengths::{len2, squared_length};
 pub use lines::{between, collinear, coplanar, normal};
 pub use memory::Memory;
 pub use midpoints::midpoint;

@@ -85,8 +85,9 @@ fn triangle(
 #[test]
 fn the_greatest_squared_distance_is_exact(rt: HostRuntime) -> Result<(), Fail> {
     let g = GREATEST;
-    let farthest = len2(place(-g, -g, -g)?, place(g, g, g)?);
-    assert_eq!(rt; farthest, 13835058055282163712i128);
+    let (low, high) = (place(-g, -g, -g)?, place(g, g, g)?);
+    assert_eq!(rt; len2(low, high), 13835058055282163712i128);
+    assert_eq!(rt; squared_length(low, high), 13835058055282163712u64);
     assert_eq!(rt; len2(place(1, 2, 3)?, place(2, 0, 6)?), 14i128);
     assert_eq!(rt; len2(place(7, 7, 7)?, place(7, 7, 7)?), 0i128);
     Ok(())

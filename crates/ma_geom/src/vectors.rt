@@ -1,10 +1,10 @@
 //! Vectors between places, and their cross products. Each type keeps how far from zero its
 //! components are, so that no sum or product of them can overflow.
-ghost use Rattle.std.specs.Prelude.{◌≡◌, ◌≤◌, ◌*◌, ◌^◌, unsigned_abs};
+ghost use Rattle.std.specs.Prelude.{◌≡◌, ◌≤◌, ◌*◌, ◌^◌, pos, unsigned_abs};
 ghost use Rattle.ma_geom.specs.Lines.{is_zero};
 ghost use Rattle.ma_geom.specs.Volume.{cross, dot, minus};
 
-use crate::exact::{difference, minor, product, scaled, short_total, total};
+use crate::exact::{difference, minor, product, scaled, short_total, square, total};
 use crate::place::Place;
 use std::marker::Model;
 
@@ -72,6 +72,14 @@ impl Vector {
             product(self.y, other.y),
             product(self.z, other.z),
         )
+    }
+
+    /// The square of its length.
+    pub fn square(&self) -> u64
+        ensures value { pos result ≡ dot self.now self.now }
+        ensures bound { result ≤ 3 * 2 ^ 62 }
+    {
+        square(self.x) + square(self.y) + square(self.z)
     }
 
     pub fn cross(&self, other: &Vector) -> Form
