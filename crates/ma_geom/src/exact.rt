@@ -25,7 +25,7 @@ pub(crate) fn product(p: i64, q: i64) -> i64
 }
 
 /// The square of a difference.
-pub(crate) fn square(d: i64) -> u64
+pub(crate) fn squared_difference(d: i64) -> u64
     requires { unsigned_abs d ≤ 2 ^ 31 }
     ensures value { pos result ≡ d *ℤ d }
     ensures bound { result ≤ 2 ^ 62 }

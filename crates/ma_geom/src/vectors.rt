@@ -4,7 +4,7 @@ ghost use Rattle.std.specs.Prelude.{◌≡◌, ◌≤◌, ◌*◌, ◌^◌, pos,
 ghost use Rattle.ma_geom.specs.Lines.{is_zero};
 ghost use Rattle.ma_geom.specs.Volume.{cross, dot, minus};
 
-use crate::exact::{difference, minor, product, scaled, short_total, square, total};
+use crate::exact::{difference, minor, product, scaled, short_total, squared_difference, total};
 use crate::place::Place;
 use std::marker::Model;
 
@@ -79,7 +79,7 @@ impl Vector {
         ensures value { pos result ≡ dot self.now self.now }
         ensures bound { result ≤ 3 * 2 ^ 62 }
     {
-        square(self.x) + square(self.y) + square(self.z)
+        squared_difference(self.x) + squared_difference(self.y) + squared_difference(self.z)
     }
 
     pub fn cross(&self, other: &Vector) -> Form

@@ -1,6 +1,6 @@
 // A field of sizes over places.
 ghost use Rattle.std.specs.Prelude.{◌≡◌, ◌&&◌, ◌≤◌, ◌*◌, ◌^◌, ◌*ℤ◌, pos, int_lt, min, unsigned_abs, [], true};
-ghost use Rattle.size_marks.specs.Field.{greatest_size, holds, is_long, is_short, is_size, is_within, size_along, size_at};
+ghost use Rattle.size_marks.specs.Field.{greatest_size, holds, is_long, is_short, is_size, is_in_extent, size_along, size_at};
 
 use ma_geom::{Place, squared_length};
 use std::alloc::Global;
@@ -28,8 +28,8 @@ impl Model for SizeBox {
     ghost inverse = { λ b. record { low = b.low; high = b.high; size = b.size } };
 }
 
-fn is_within(low: i32, high: i32, c: i32) -> bool
-    ensures { result ≡ is_within low high c }
+fn is_in_extent(low: i32, high: i32, c: i32) -> bool
+    ensures { result ≡ is_in_extent low high c }
 {
     low <= c && c <= high
 }
@@ -60,9 +60,9 @@ impl SizeBox {
         ensures { result ≡ holds self.now p }
     {
         let (low, high) = (self.low, self.high);
-        let x = is_within(low.x(), high.x(), p.x());
-        let y = is_within(low.y(), high.y(), p.y());
-        let z = is_within(low.z(), high.z(), p.z());
+        let x = is_in_extent(low.x(), high.x(), p.x());
+        let y = is_in_extent(low.y(), high.y(), p.y());
+        let z = is_in_extent(low.z(), high.z(), p.z());
         are_true(x, y, z)
     }
 }
