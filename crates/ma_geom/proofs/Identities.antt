@@ -1,4 +1,4 @@
--- Identities of vectors, of the volume, and of the sides of a point.
+-- Identities of vectors, of the volume, and of the sides of a point. Some that nothing cites yet are kept for laws of cavities and of five places, which exchange the tetrahedra around an edge or a face.
 use Rattle.std.proofs.Common.{◌≡◌, ℕ, zero, suc, ◌<◌, ◌⊎◌, inl, inr, ⊎_elim, List, [], ◌∷◌, length, arith, refl, ap, ◌∙◌}
 use Rattle.std.specs.List.{swap}
 use Rattle.std.specs.List.Sorted.{IsPermutation}

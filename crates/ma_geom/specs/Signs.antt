@@ -17,6 +17,6 @@ same_sign Plus Plus = true
 same_sign _ _ = false
 
 -- the side of the triangle a b c on which p lies: zero where p lies in its plane, or where these aren't three places
-abbrev pub side : List Coordinates → Coordinates → Sign
-side (a ∷ b ∷ c ∷ []) p = sign_of (vol6 a b c p)
-side _ p = Zero
+abbrev pub side_of : List Coordinates → Coordinates → Sign
+side_of (a ∷ b ∷ c ∷ []) p = sign_of (vol6 a b c p)
+side_of _ p = Zero

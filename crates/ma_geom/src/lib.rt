@@ -1,7 +1,7 @@
 //! Places with whole coordinates, and tests on them that are exact over the whole range.
 #![tactic(auto)]
 
-pub mod exact;
+mod exact;
 mod lengths;
 mod lines;
 mod memory;
@@ -10,9 +10,10 @@ mod place;
 mod qualities;
 mod signs;
 mod turns;
+pub mod vectors;
 
-pub use lengths::len2;
-pub use lines::{between, collinear, coplanar};
+pub use lengths::{len2, squared_length};
+pub use lines::{between, collinear, coplanar, normal};
 pub use memory::Memory;
 pub use midpoints::midpoint;
 pub use place::{Place, vol6};

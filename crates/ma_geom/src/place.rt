@@ -1,9 +1,9 @@
 // Places, and the volume of a tetrahedron.
-ghost use Rattle.std.specs.Prelude.{◌≡◌, ◌≤◌, ◌^◌, ◌↔◌, ◌-ℤ◌, unsigned_abs, IsTrue, SomeIff};
+ghost use Rattle.std.specs.Prelude.{◌≡◌, ◌≤◌, ◌^◌, ◌↔◌, unsigned_abs, IsTrue, SomeIff};
 ghost use Rattle.ma_geom.specs.Coordinates.{IsInRange, limit};
 ghost use Rattle.ma_geom.specs.Volume.{vol6};
 
-use crate::exact::{along, difference, minor, total};
+use crate::vectors::Vector;
 use std::marker::Model;
 
 /// A point with whole coordinates, each at most 2^30 in absolute value. Places are ordered by x,
@@ -87,34 +87,11 @@ impl Place {
     }
 }
 
-/// A vector between two places.
-#[derive(Clone, Copy)]
-pub(crate) struct Vector {
-    pub(crate) x: i128,
-    pub(crate) y: i128,
-    pub(crate) z: i128,
-}
-
-pub(crate) fn between_places(from: Place, to: Place) -> Vector
-    ensures value { (result.x ≡ to.x -ℤ from.x) × (result.y ≡ to.y -ℤ from.y) × (result.z ≡ to.z -ℤ from.z) }
-    ensures bound { (unsigned_abs result.x ≤ 2 ^ 31) × (unsigned_abs result.y ≤ 2 ^ 31) × (unsigned_abs result.z ≤ 2 ^ 31) }
-{
-    Vector {
-        x: difference(to.x, from.x),
-        y: difference(to.y, from.y),
-        z: difference(to.z, from.z),
-    }
-}
-
 /// Six times the signed volume of the tetrahedron `a`, `b`, `c`, `d`.
+#[tactic(auto, unfolding(crate::specs::Volume::vol6))]
 pub fn vol6(a: Place, b: Place, c: Place, d: Place) -> i128
     ensures { result ≡ vol6 a b c d }
 {
-    let u = between_places(a, b);
-    let v = between_places(a, c);
-    let w = between_places(a, d);
-    let x = along(minor(u.y, u.z, v.y, v.z), w.x);
-    let y = along(minor(u.z, u.x, v.z, v.x), w.y);
-    let z = along(minor(u.x, u.y, v.x, v.y), w.z);
-    total(x, y, z)
+    let normal = Vector::from_to(a, b).cross(&Vector::from_to(a, c));
+    normal.along(&Vector::from_to(a, d))
 }

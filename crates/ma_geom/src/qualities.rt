@@ -1,32 +1,26 @@
 // The quality of a tetrahedron.
 ghost use Rattle.std.specs.Prelude.{◌≡◌, ◌≢◌, ◌+◌, ◌≤◌, ◌<◌, ◌*◌, ◌/◌, ◌^◌, pos, false, unsigned_abs};
 ghost use Rattle.ma_geom.specs.Lines.{is_flat};
-ghost use Rattle.ma_geom.specs.Quality.{edge2, longest2, quality, quality_of, root};
+ghost use Rattle.ma_geom.specs.Quality.{longest2, quality, quality_of, root};
 ghost use Rattle.ma_geom.specs.Volume.{vol6};
 
-use crate::lengths::len2;
+use crate::lengths::squared_length;
 use crate::place::{Place, vol6};
 
 /// The parts of the cube. A regular tetrahedron has the quality 2^30 / sqrt 2, but for the rounding
 /// of its edge.
 const WHOLE: u128 = 1 << 30;
 
-fn edge2(a: Place, b: Place) -> u64
-    ensures { result ≡ edge2 a b }
-{
-    len2(a, b).unsigned_abs() as u64
-}
-
 #[tactic(auto, unfolding(crate::specs::Quality::longest2))]
 fn longest2(a: Place, b: Place, c: Place, d: Place) -> u64
     ensures { result ≡ longest2 a b c d }
 {
-    edge2(a, b)
-        .max(edge2(a, c))
-        .max(edge2(a, d))
-        .max(edge2(b, c))
-        .max(edge2(b, d))
-        .max(edge2(c, d))
+    squared_length(a, b)
+        .max(squared_length(a, c))
+        .max(squared_length(a, d))
+        .max(squared_length(b, c))
+        .max(squared_length(b, d))
+        .max(squared_length(c, d))
 }
 
 #[tactic(auto, using(crate::proofs::Roots::one_root))]

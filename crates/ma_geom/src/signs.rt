@@ -1,6 +1,6 @@
 // Signs, and the side of a triangle on which a place lies.
 ghost use Rattle.std.specs.Prelude.{◌≡◌};
-ghost use Rattle.ma_geom.specs.Signs.{side, same_sign, sign_of};
+ghost use Rattle.ma_geom.specs.Signs.{same_sign, side_of, sign_of};
 ghost use Rattle.ma_geom.specs.Volume.{vol6};
 
 use crate::place::{Place, vol6};
@@ -31,7 +31,7 @@ pub(crate) fn same_sign(s: Sign, t: Sign) -> bool
     s == t
 }
 
-fn side_of(a: Place, b: Place, c: Place, p: Place) -> Sign
+fn side_by_corners(a: Place, b: Place, c: Place, p: Place) -> Sign
     ensures { result ≡ sign_of (vol6 a b c p) }
 {
     sign_of(vol6(a, b, c, p))
@@ -40,7 +40,7 @@ fn side_of(a: Place, b: Place, c: Place, p: Place) -> Sign
 /// The side of the triangle `face` on which `p` lies: `Plus` where its corners turn to the left,
 /// seen from `p`.
 pub fn side(face: [Place; 3], p: Place) -> Sign
-    ensures { result ≡ side face p }
+    ensures { result ≡ side_of face p }
 {
-    side_of(face[0], face[1], face[2], p)
+    side_by_corners(face[0], face[1], face[2], p)
 }

@@ -2,7 +2,7 @@
 ghost use Rattle.std.specs.Prelude.{◌≡◌};
 ghost use Rattle.ma_geom.specs.Lines.{normal};
 ghost use Rattle.ma_geom.specs.Signs.{sign_of};
-ghost use Rattle.ma_geom.specs.Turns.{is_straight, same_turn, turn_of};
+ghost use Rattle.ma_geom.specs.Turns.{is_no_turn, same_turn, turn_of};
 
 use crate::lines::normal;
 use crate::place::Place;
@@ -37,8 +37,8 @@ fn turn_of(t: [Place; 3]) -> Turn
     turn_by(t[0], t[1], t[2])
 }
 
-fn is_straight(turn: Turn) -> bool
-    ensures { result ≡ is_straight (record { x = turn.x; y = turn.y; z = turn.z }) }
+fn is_no_turn(turn: Turn) -> bool
+    ensures { result ≡ is_no_turn (record { x = turn.x; y = turn.y; z = turn.z }) }
 {
     same_sign(turn.x, Sign::Zero) && same_sign(turn.y, Sign::Zero) && same_sign(turn.z, Sign::Zero)
 }
@@ -52,5 +52,5 @@ pub fn same_turn(t: [Place; 3], u: [Place; 3]) -> bool
     same_sign(one.x, other.x)
         && same_sign(one.y, other.y)
         && same_sign(one.z, other.z)
-        && !is_straight(one)
+        && !is_no_turn(one)
 }

@@ -5,9 +5,9 @@ ghost use Rattle.ma_geom.specs.Volume.{cross, dot};
 ghost use Rattle.overlap_check.specs.Forms.{axes, normal_of, normals_of, products, slants, step_of, steps_of, x_axis, y_axis, z_axis};
 ghost use Rattle.overlap_check.specs.Overlap.{are_apart, are_separated, is_apart, is_below};
 
-use crate::vectors::{Form, Step, cross, step_between};
 use ma_cells::Tet;
-use ma_geom::Place;
+use ma_geom::vectors::{Form, Vector};
+use ma_geom::{Place, normal};
 
 /// Whether the number is above none of the others.
 fn is_lowest(v: &i128, ws: &[i128]) -> bool
@@ -75,20 +75,19 @@ fn is_apart(n: Form, a: &Tet, b: &Tet) -> bool
     !n.is_zero() && are_apart(&values(n, a), &values(n, b))
 }
 
-/// A vector at right angles to a triangle.
-#[tactic(auto, unfolding(ma_geom::specs::Lines::normal))]
-fn normal(face: [Place; 3]) -> Form
+fn normal_of(face: [Place; 3]) -> Form
     ensures { result ≡ normal_of face }
 {
     let [a, b, c] = face;
-    cross(step_between(a, b), step_between(a, c))
+    normal(a, b, c)
 }
 
-fn along(edge: [Place; 2]) -> Step
+/// The vector along an edge.
+fn step_of(edge: [Place; 2]) -> Vector
     ensures { result ≡ step_of edge }
 {
     let [a, b] = edge;
-    step_between(a, b)
+    Vector::from_to(a, b)
 }
 
 /// The normals of the faces of a tetrahedron.
@@ -96,15 +95,22 @@ fn normals(tet: &Tet) -> [Form; 4]
     ensures { result ≡ normals_of tet.now.corners }
 {
     let [a, b, c, d] = tet.faces();
-    [normal(a), normal(b), normal(c), normal(d)]
+    [normal_of(a), normal_of(b), normal_of(c), normal_of(d)]
 }
 
 /// The vectors along the edges of a tetrahedron.
-fn steps(tet: &Tet) -> [Step; 6]
+fn steps(tet: &Tet) -> [Vector; 6]
     ensures { result ≡ steps_of tet.now.corners }
 {
     let [a, b, c, d, e, f] = tet.edges();
-    [along(a), along(b), along(c), along(d), along(e), along(f)]
+    [
+        step_of(a),
+        step_of(b),
+        step_of(c),
+        step_of(d),
+        step_of(e),
+        step_of(f),
+    ]
 }
 
 /// Whether one of these forms parts them.
@@ -115,17 +121,17 @@ fn are_apart_by(forms: &[Form], a: &Tet, b: &Tet) -> bool
 }
 
 /// Whether the cross product of `u` with one of the others parts them.
-fn are_apart_by_product(u: Step, vs: &[Step], a: &Tet, b: &Tet) -> bool
-    ensures { result ≡ list_any (λ v. is_apart (cross u v) a.now.corners b.now.corners) vs.now }
+fn are_apart_by_product(u: &Vector, vs: &[Vector], a: &Tet, b: &Tet) -> bool
+    ensures { result ≡ list_any (λ v. is_apart (cross u.now v) a.now.corners b.now.corners) vs.now }
 {
-    vs.iter().any(|v| is_apart(cross(u, *v), a, b))
+    vs.iter().any(|v| is_apart(u.cross(v), a, b))
 }
 
 /// Whether the cross product of a vector of the one list with one of the other parts them.
-fn are_apart_by_products(us: &[Step], vs: &[Step], a: &Tet, b: &Tet) -> bool
+fn are_apart_by_products(us: &[Vector], vs: &[Vector], a: &Tet, b: &Tet) -> bool
     ensures { result ≡ list_any (λ u. list_any (λ v. is_apart (cross u v) a.now.corners b.now.corners) vs.now) us.now }
 {
-    us.iter().any(|u| are_apart_by_product(*u, vs, a, b))
+    us.iter().any(|u| are_apart_by_product(u, vs, a, b))
 }
 
 /// Whether the normal of a face parts them.

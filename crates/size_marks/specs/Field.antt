@@ -21,12 +21,13 @@ greatest_size = 2 ^ 30
 abbrev pub is_size : ℕ → Bool
 is_size n = nat_le 1 n && nat_le n greatest_size
 
-abbrev pub is_within : ℤ → ℤ → ℤ → Bool
-is_within low high c = int_le low c && int_le c high
+-- whether a coordinate is in the extent of a box along its axis
+abbrev pub is_in_extent : ℤ → ℤ → ℤ → Bool
+is_in_extent low high c = int_le low c && int_le c high
 
 -- where a coordinate of the low corner is greater than that of the high one, the box holds no place
 abbrev pub holds : BoxedSize → Coordinates → Bool
-holds b p = is_within b.low.x b.high.x p.x && (is_within b.low.y b.high.y p.y && is_within b.low.z b.high.z p.z)
+holds b p = is_in_extent b.low.x b.high.x p.x && (is_in_extent b.low.y b.high.y p.y && is_in_extent b.low.z b.high.z p.z)
 
 -- the last of these, if there is one
 abbrev pub last_or : ℕ → List ℕ → ℕ

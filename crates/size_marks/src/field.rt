@@ -1,8 +1,8 @@
 // A field of sizes over places.
 ghost use Rattle.std.specs.Prelude.{◌≡◌, ◌&&◌, ◌≤◌, ◌*◌, ◌^◌, ◌*ℤ◌, pos, int_lt, min, unsigned_abs, [], true};
-ghost use Rattle.size_marks.specs.Field.{greatest_size, holds, is_long, is_short, is_size, is_within, size_along, size_at};
+ghost use Rattle.size_marks.specs.Field.{greatest_size, holds, is_long, is_short, is_size, is_in_extent, size_along, size_at};
 
-use ma_geom::{Place, len2};
+use ma_geom::{Place, squared_length};
 use std::alloc::Global;
 use std::marker::Model;
 
@@ -28,8 +28,8 @@ impl Model for SizeBox {
     ghost inverse = { λ b. record { low = b.low; high = b.high; size = b.size } };
 }
 
-fn is_within(low: i32, high: i32, c: i32) -> bool
-    ensures { result ≡ is_within low high c }
+fn is_in_extent(low: i32, high: i32, c: i32) -> bool
+    ensures { result ≡ is_in_extent low high c }
 {
     low <= c && c <= high
 }
@@ -60,9 +60,9 @@ impl SizeBox {
         ensures { result ≡ holds self.now p }
     {
         let (low, high) = (self.low, self.high);
-        let x = is_within(low.x(), high.x(), p.x());
-        let y = is_within(low.y(), high.y(), p.y());
-        let z = is_within(low.z(), high.z(), p.z());
+        let x = is_in_extent(low.x(), high.x(), p.x());
+        let y = is_in_extent(low.y(), high.y(), p.y());
+        let z = is_in_extent(low.z(), high.z(), p.z());
         are_true(x, y, z)
     }
 }
@@ -85,41 +85,39 @@ impl Model for SizeField {
     ghost invariant = { λ f. is_size f.default ≡ true };
 }
 
-/// The size at a place, with these boxes.
+/// The size of the last of these boxes that holds the place, else the default.
 fn size_among(default: u32, boxes: &[SizeBox], p: Place) -> u32
     requires { is_size default ≡ true }
     ensures range { is_size result ≡ true }
     ensures value { result ≡ size_at (record { default = default; boxes = boxes.now }) p }
 {
-    let mut size = default;
-    for b in boxes {
-        if b.holds(p) {
-            size = b.size();
+    let mut before = boxes;
+    while let [rest @ .., last] = before {
+        if last.holds(p) {
+            return last.size();
         }
+        before = rest;
     }
-    size
+    default
 }
 
-/// Whether a squared length is past `9/4` of the square of a size.
-fn is_longer(length2: i128, size: u32) -> bool
-    requires length { unsigned_abs length2 ≤ 3 * 2 ^ 62 }
-    requires size { size ≤ greatest_size }
-    ensures { result ≡ int_lt (pos (9 * (size * size))) (pos 4 *ℤ length2) }
+/// Whether a squared length is past `9/4` of the square of a size. Four times a squared length may
+/// be past 64 bits.
+fn is_longer(length2: u64, size: u32) -> bool
+    requires { size ≤ greatest_size }
+    ensures { result ≡ int_lt (pos (9 * (size * size))) (pos 4 *ℤ pos length2) }
 {
     let size = u128::from(size);
-    let bound = (9 * (size * size)) as i128;
-    bound < 4 * length2
+    9 * (size * size) < 4 * u128::from(length2)
 }
 
 /// Whether a squared length is below a quarter of the square of a size.
-fn is_shorter(length2: i128, size: u32) -> bool
-    requires length { unsigned_abs length2 ≤ 3 * 2 ^ 62 }
-    requires size { size ≤ greatest_size }
-    ensures { result ≡ int_lt (pos 4 *ℤ length2) (pos (size * size)) }
+fn is_shorter(length2: u64, size: u32) -> bool
+    requires { size ≤ greatest_size }
+    ensures { result ≡ int_lt (pos 4 *ℤ pos length2) (pos (size * size)) }
 {
     let size = u128::from(size);
-    let bound = (size * size) as i128;
-    4 * length2 < bound
+    4 * u128::from(length2) < size * size
 }
 
 fn lesser(a: u32, b: u32) -> u32
@@ -164,7 +162,7 @@ impl SizeField {
     pub fn is_long(&self, a: Place, b: Place) -> bool
         ensures { result ≡ is_long self.now a b }
     {
-        is_longer(len2(a, b), self.size_along(a, b))
+        is_longer(squared_length(a, b), self.size_along(a, b))
     }
 
     /// Whether the edge is shorter than half of its size, the lesser one of its two ends.
@@ -172,6 +170,6 @@ impl SizeField {
     pub fn is_short(&self, a: Place, b: Place) -> bool
         ensures { result ≡ is_short self.now a b }
     {
-        is_shorter(len2(a, b), self.size_along(a, b))
+        is_shorter(squared_length(a, b), self.size_along(a, b))
     }
 }

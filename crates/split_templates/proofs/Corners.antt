@@ -17,7 +17,7 @@ use Rattle.ma_cells.proofs.Cornered.{distinct-ascending}
 use Rattle.ma_cells.proofs.Corners.{corners_rise, corners_span}
 use Rattle.ma_cells.proofs.Permutations.{alone, apart, ascending_of-permutes, both}
 use Rattle.ma_cells.proofs.Pieces.{distinct_corners, four_corners, half_solid, middle_is_new, moved_first, pieces_are_corners, solid_corners, solid_edge, solid_in_any_order}
-use Rattle.split_templates.specs.Kept.{keeps_corners}
+use Rattle.split_templates.specs.steps.Kept.{keeps_corners}
 use Rattle.split_templates.specs.Pieces.{bisected_along}
 use Rattle.split_templates.proofs.Keeping.{IsInherited}
 use Rattle.split_templates.proofs.Shapes.{all_counted, all_kept, all_of_kind, both_later, in_turn}

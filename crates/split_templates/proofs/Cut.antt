@@ -7,9 +7,9 @@ use Rattle.std.proofs.lemmas.Bool.{and_parts, eqb-true}
 use Rattle.ma_geom.specs.Coordinates.{Coordinates, place_cmp}
 use Rattle.ma_cells.specs.Ascending.{ascending_of}
 use Rattle.split_templates.specs.declared.edges.Edge.{Edge}
-use Rattle.split_templates.specs.Kept.{keeps_corners}
+use Rattle.split_templates.specs.steps.Kept.{keeps_corners}
 use Rattle.split_templates.specs.Pieces.{bisected_along, halves}
-use Rattle.split_templates.specs.Putting.{put_all}
+use Rattle.split_templates.specs.steps.Putting.{put_all}
 use Rattle.split_templates.proofs.Sets.{put_all-append, put_all-nothing, length-put_all, bisected_along-append}
 
 -- a list that isn't empty, by its first item and the rest

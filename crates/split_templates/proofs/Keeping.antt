@@ -10,7 +10,7 @@ use Rattle.ma_cells.specs.Bisection.{replaced}
 use Rattle.ma_cells.specs.Faces.{holds_all}
 use Rattle.ma_cells.proofs.Bisections.{holds_all-turned}
 use Rattle.ma_cells.proofs.Choices.{all-append}
-use Rattle.split_templates.specs.Kept.{keeps_corners}
+use Rattle.split_templates.specs.steps.Kept.{keeps_corners}
 use Rattle.split_templates.specs.Pieces.{bisected_along}
 use Rattle.split_templates.proofs.Counting.{IsFresh, IsSplit, split_or_whole}
 use Rattle.split_templates.proofs.Cut.{pieces_of_halves, pieces_of_whole}

@@ -4,7 +4,7 @@ use Rattle.std.specs.Prelude.{ℤ, pos, ◌+ℤ◌, int_div, int_rem}
 use Rattle.std.specs.Ordering.{int_eq}
 use Rattle.std.proofs.lemmas.Int.{ints}
 use Rattle.ma_geom.specs.Coordinates.{Coordinates}
-use Rattle.ma_geom.specs.Midpoints.{halved, midpoint, place_of}
+use Rattle.ma_geom.specs.Midpoints.{halved, midpoint, whole_place}
 use Rattle.ma_geom.specs.Rational.{IsMiddle}
 use Rattle.ma_geom.proofs.Integers.{twice_half}
 
@@ -21,15 +21,15 @@ halved_twice n h is =
       | false ↦ λ _ k. absurd (cc)
     ] refl is
 
-place_of_parts : (x y z : Option ℤ) (m : Coordinates) → place_of x y z ≡ Some m → (x ≡ Some m.x) × (y ≡ Some m.y) × (z ≡ Some m.z)
-place_of_parts (Some x) (Some y) (Some z) m h =
+whole_place_parts : (x y z : Option ℤ) (m : Coordinates) → whole_place x y z ≡ Some m → (x ≡ Some m.x) × (y ≡ Some m.y) × (z ≡ Some m.z)
+whole_place_parts (Some x) (Some y) (Some z) m h =
     let place : record { x = x; y = y; z = z } ≡ m = cc in
     (ap (λ (p : Coordinates). Some p.x) place, ap (λ (p : Coordinates). Some p.y) place, ap (λ (p : Coordinates). Some p.z) place)
-place_of_parts (Some x) (Some y) None m h = absurd (cc)
-place_of_parts (Some x) None z m h = absurd (cc)
-place_of_parts None y z m h = absurd (cc)
+whole_place_parts (Some x) (Some y) None m h = absurd (cc)
+whole_place_parts (Some x) None z m h = absurd (cc)
+whole_place_parts None y z m h = absurd (cc)
 
 pub midpoint-IsMiddle : (a b m : Coordinates) → midpoint a b ≡ Some m → IsMiddle m a b
 midpoint-IsMiddle a b m h =
-    let parts = place_of_parts (halved (a.x +ℤ b.x)) (halved (a.y +ℤ b.y)) (halved (a.z +ℤ b.z)) m h in
+    let parts = whole_place_parts (halved (a.x +ℤ b.x)) (halved (a.y +ℤ b.y)) (halved (a.z +ℤ b.z)) m h in
     record { x = halved_twice (a.x +ℤ b.x) m.x parts.0; y = halved_twice (a.y +ℤ b.y) m.y parts.1; z = halved_twice (a.z +ℤ b.z) m.z parts.2 }

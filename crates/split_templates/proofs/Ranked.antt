@@ -8,7 +8,7 @@ use Rattle.ma_geom.specs.Coordinates.{Coordinates, place_cmp}
 use Rattle.ma_cells.specs.Ascending.{put}
 use Rattle.split_templates.specs.Edges.{edge_cmp, edge_len2}
 use Rattle.split_templates.specs.declared.edges.Edge.{Edge}
-use Rattle.split_templates.specs.Ranks.{ranked}
+use Rattle.split_templates.specs.steps.Ranks.{ranked}
 use Rattle.split_templates.specs.contracts.edges.EdgeOrd.TheImpl as EdgeOrder
 use Rattle.split_templates.proofs.Sets.{map-put}
 

@@ -10,7 +10,7 @@ use Rattle.ma_geom.specs.Coordinates.{Coordinates}
 use Rattle.ma_cells.specs.Ascending.{put, ascending_of}
 use Rattle.split_templates.specs.Edges.{chosen}
 use Rattle.split_templates.specs.Pieces.{bisected_along, halves}
-use Rattle.split_templates.specs.Putting.{put_all}
+use Rattle.split_templates.specs.steps.Putting.{put_all}
 
 -- ---- what is put in one after the other
 module _ {K : Type 0} (R : K → K → Ordering) where

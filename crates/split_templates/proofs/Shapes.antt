@@ -17,7 +17,7 @@ use Rattle.ma_cells.proofs.Cornered.{distinct-ascending}
 use Rattle.ma_cells.proofs.Permutations.{alone, apart, both, ends_first, has-permutation}
 use Rattle.ma_cells.proofs.Pieces.{no_ends}
 use Rattle.split_templates.specs.Edges.{chosen, edge_cmp}
-use Rattle.split_templates.specs.Kept.{keeps_corners}
+use Rattle.split_templates.specs.steps.Kept.{keeps_corners}
 use Rattle.split_templates.specs.Pieces.{bisected_along}
 use Rattle.split_templates.proofs.Counting.{IsFresh, count-length, count_pieces, doubled}
 use Rattle.split_templates.proofs.Keeping.{IsInherited, inherited_by_all, inherited_kept}

@@ -1,5 +1,3 @@
 pub mod Edges
-pub mod Ranks
 pub mod Pieces
-pub mod Kept
-pub mod Putting
+pub mod steps

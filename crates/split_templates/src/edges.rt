@@ -4,7 +4,7 @@ ghost use Rattle.arrayvec.specs.ArrayVec.{array_vec_len};
 ghost use Rattle.ma_cells.specs.Ascending.{ascending_of};
 ghost use Rattle.ma_cells.specs.Faces.{edges_of};
 ghost use Rattle.split_templates.specs.Edges.{chosen, edge_cmp, is_long_edge, mask_of};
-ghost use Rattle.split_templates.specs.Ranks.{ranked};
+ghost use Rattle.split_templates.specs.steps.Ranks.{ranked};
 
 use crate::put::put;
 use arrayvec::ArrayVec;
@@ -53,7 +53,7 @@ pub(crate) fn in_order(edges: &[[Place; 2]], mask: u8) -> ArrayVec<Edge, 6>
     }
 }
 
-fn is_long(ends: [Place; 2], field: &SizeField) -> bool
+fn is_long_edge(ends: [Place; 2], field: &SizeField) -> bool
     ensures { result ≡ is_long_edge field.now ends }
 {
     field.is_long(ends[0], ends[1])
@@ -67,7 +67,7 @@ fn long_ones(edges: &[[Place; 2]], field: &SizeField) -> EdgeMask
 {
     match edges {
         [] => 0,
-        [first, rest @ ..] => u8::from(is_long(*first, field)) + 2 * long_ones(rest, field),
+        [first, rest @ ..] => u8::from(is_long_edge(*first, field)) + 2 * long_ones(rest, field),
     }
 }
 
@@ -81,7 +81,7 @@ pub fn marked(t: &Tet, field: &SizeField) -> EdgeMask
 }
 
 /// The pairs of these places, each in their order.
-pub(crate) fn sides(corners: [Place; 3]) -> [[Place; 2]; 3]
+pub(crate) fn tri_edges(corners: [Place; 3]) -> [[Place; 2]; 3]
     ensures { result ≡ edges_of corners }
 {
     let [a, b, c] = corners;
@@ -93,7 +93,7 @@ pub fn marked_tri(t: [Place; 3], field: &SizeField) -> EdgeMask
     ensures bound { result < 8 }
     ensures long { chosen result (edges_of t) ≡ filter (is_long_edge field.now) (edges_of t) }
 {
-    long_ones(&sides(t), field)
+    long_ones(&tri_edges(t), field)
 }
 
 /// Bit 0 if the segment is long. Takes no memory.

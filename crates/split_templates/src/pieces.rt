@@ -7,9 +7,9 @@ ghost use Rattle.arrayvec.specs.ArrayVec.{array_vec_len};
 ghost use Rattle.ma_geom.specs.Coordinates.{place_cmp};
 ghost use Rattle.ma_cells.specs.Ascending.{has};
 ghost use Rattle.ma_cells.specs.Bisection.{replaced};
-ghost use Rattle.split_templates.specs.Kept.{keeps_corners};
+ghost use Rattle.split_templates.specs.steps.Kept.{keeps_corners};
 ghost use Rattle.split_templates.specs.Pieces.{bisected_along, halves};
-ghost use Rattle.split_templates.specs.Putting.{put_all};
+ghost use Rattle.split_templates.specs.steps.Putting.{put_all};
 
 use crate::edges::Edge;
 use crate::put::put;
@@ -23,17 +23,17 @@ fn has(corners: &[Place], corner: &Place) -> bool
 }
 
 /// One corner, or another place where it is the one that is to go.
-fn moved(corner: Place, old: Place, new: Place) -> Place
+fn new_corner(corner: Place, old: Place, new: Place) -> Place
     ensures { result ≡ (if eq_by_cmp place_cmp old corner then new else corner) }
 {
     if old == corner { new } else { corner }
 }
 
-fn move_all(places: &mut [Place], old: Place, new: Place)
+fn replace_all(places: &mut [Place], old: Place, new: Place)
     ensures { places.new ≡ map (λ corner. if eq_by_cmp place_cmp old corner then new else corner) places.old }
 {
     for place in places.iter_mut() {
-        *place = moved(*place, old, new);
+        *place = new_corner(*place, old, new);
     }
 }
 
@@ -43,7 +43,7 @@ fn replaced<const N: usize>(corners: [Place; N], old: Place, new: Place) -> [Pla
     ensures { result ≡ replaced old new corners.entry }
 {
     let mut places = corners;
-    move_all(&mut places, old, new);
+    replace_all(&mut places, old, new);
     places.sort_unstable();
     places
 }

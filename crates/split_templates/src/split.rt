@@ -8,7 +8,7 @@ ghost use Rattle.ma_cells.specs.Tetrahedron.{are_corners};
 ghost use Rattle.split_templates.specs.Edges.{chosen};
 ghost use Rattle.split_templates.specs.Pieces.{is_straight, pieces_of, tets_of};
 
-use crate::edges::{EdgeMask, in_order, sides};
+use crate::edges::{EdgeMask, in_order, tri_edges};
 use crate::pieces::{cut_seg, cut_tet, cut_tri};
 use arrayvec::ArrayVec;
 use ma_cells::Tet;
@@ -34,12 +34,12 @@ pub fn split_tri(t: [Place; 3], mask: u8) -> ArrayVec<[Place; 3], 4>
     ensures { result.items ≡ pieces_of (chosen mask (edges_of t)) t }
 {
     let mut pieces = ArrayVec::new();
-    cut_tri(in_order(&sides(t), mask).as_slice(), t, &mut pieces);
+    cut_tri(in_order(&tri_edges(t), mask).as_slice(), t, &mut pieces);
     pieces
 }
 
 /// The corners of the pieces of a tetrahedron.
-fn tet_pieces(t: &Tet, mask: EdgeMask) -> ArrayVec<[Place; 4], 8>
+fn pieces_of(t: &Tet, mask: EdgeMask) -> ArrayVec<[Place; 4], 8>
     ensures value { result.items ≡ pieces_of (chosen mask (edges_of t.now.corners)) t.now.corners }
     ensures corners { list_all are_corners result.items ≡ true }
 {
@@ -69,7 +69,7 @@ fn piece_of(t: &Tet, corners: [Place; 4]) -> Tet
 pub fn children(t: &Tet, mask: EdgeMask) -> ArrayVec<Tet, 8>
     ensures { result.items ≡ tets_of (chosen mask (edges_of t.now.corners)) t.now }
 {
-    let pieces = tet_pieces(t, mask);
+    let pieces = pieces_of(t, mask);
     let cells = pieces.as_slice();
     let mut tets = ArrayVec::new();
     for corners in cells {

@@ -4,109 +4,129 @@ use arrayvec::ArrayVec;
 use ma_cells::Tet;
 use ma_geom::{Place, collinear};
 use size_marks::SizeField;
-use std::test::Fail;
 
-fn place(x: i32, y: i32, z: i32) -> Result<Place, Fail> {
-    Ok(Place::new(x, y, z).ok_or("a coordinate is out of range")?)
+/// The place with these coordinates.
+fn at([x, y, z]: [i8; 3]) -> Place {
+    match Place::new(i32::from(x), i32::from(y), i32::from(z)) {
+        Some(place) => place,
+        None => Place::default(),
+    }
 }
 
-fn tet(corners: [Place; 4]) -> Result<Tet, Fail> {
-    Ok(Tet::new(corners, 0, 1).ok_or("the corners are flat")?)
+/// The tetrahedron with these corners, or the default where they are flat.
+fn tet([a, b, c, d]: [[i8; 3]; 4]) -> Tet {
+    match Tet::new([at(a), at(b), at(c), at(d)], 0, 1) {
+        Some(tet) => tet,
+        None => Tet::default(),
+    }
 }
 
-/// The pieces of a segment between ends in this order.
-fn segments(a: Place, b: Place, mask: u8) -> Result<ArrayVec<[Place; 2], 2>, Fail> {
+/// The pieces of a segment whose ends are in order.
+fn segments(a: Place, b: Place, mask: u8) -> ArrayVec<[Place; 2], 2> {
     if a < b {
-        Ok(split_seg([a, b], mask))
+        split_seg([a, b], mask)
     } else {
-        Err("the ends aren't in order".into())
+        ArrayVec::new()
     }
 }
 
 /// The pieces of a triangle whose corners aren't on one line.
-fn triangles(t: [Place; 3], mask: u8) -> Result<ArrayVec<[Place; 3], 4>, Fail> {
-    if collinear(t[0], t[1], t[2]) {
-        Err("the corners are on one line".into())
+fn triangles(a: Place, b: Place, c: Place, mask: u8) -> ArrayVec<[Place; 3], 4> {
+    if collinear(a, b, c) {
+        ArrayVec::new()
     } else {
-        Ok(split_tri(t, mask))
+        split_tri([a, b, c], mask)
     }
 }
 
-/// The tetrahedron of the origin and the places at 8 on each axis.
-fn corner() -> Result<Tet, Fail> {
-    tet([
-        place(0, 0, 0)?,
-        place(0, 0, 8)?,
-        place(0, 8, 0)?,
-        place(8, 0, 0)?,
-    ])
-}
+const O: [i8; 3] = [0, 0, 0];
+
+const Z: [i8; 3] = [0, 0, 8];
+
+const Y: [i8; 3] = [0, 8, 0];
+
+const X: [i8; 3] = [8, 0, 0];
+
+const OZ: [i8; 3] = [0, 0, 4];
+
+const OY: [i8; 3] = [0, 4, 0];
+
+const OX: [i8; 3] = [4, 0, 0];
+
+const ZY: [i8; 3] = [0, 4, 4];
+
+const ZX: [i8; 3] = [4, 0, 4];
+
+const YX: [i8; 3] = [4, 4, 0];
 
 #[test]
-fn six_long_edges_give_eight_pieces(rt: HostRuntime) -> Result<(), Fail> {
-    let t = corner()?;
+fn six_long_edges_give_eight_pieces(rt: HostRuntime) {
+    let t = tet([O, Z, Y, X]);
     let mask = marked(&t, &SizeField::uniform(rt.alloc(), 4));
     assert_eq!(rt; mask, 63);
-    let [o, z, y, x] = t.corners();
-    let (oz, oy, ox) = (place(0, 0, 4)?, place(0, 4, 0)?, place(4, 0, 0)?);
-    let (zy, zx, yx) = (place(0, 4, 4)?, place(4, 0, 4)?, place(4, 4, 0)?);
     let pieces = children(&t, mask);
-    assert_eq!(rt;
-        pieces.as_slice(),
-        [
-            tet([o, oz, zx, zy])?,
-            tet([o, oy, zy, yx])?,
-            tet([o, zy, ox, zx])?,
-            tet([o, zy, ox, yx])?,
-            tet([oz, z, zx, zy])?,
-            tet([oy, zy, y, yx])?,
-            tet([zy, ox, zx, x])?,
-            tet([zy, ox, yx, x])?,
-        ]
-        .as_slice()
-    );
-    Ok(())
+    let wanted = [
+        tet([O, OZ, ZX, ZY]),
+        tet([O, OY, ZY, YX]),
+        tet([O, ZY, OX, ZX]),
+        tet([O, ZY, OX, YX]),
+        tet([OZ, Z, ZX, ZY]),
+        tet([OY, ZY, Y, YX]),
+        tet([ZY, OX, ZX, X]),
+        tet([ZY, OX, YX, X]),
+    ];
+    assert_eq!(rt; pieces.as_slice(), wanted.as_slice());
 }
 
 #[test]
-fn three_long_edges_at_one_corner_give_four_pieces(rt: HostRuntime) -> Result<(), Fail> {
-    let t = corner()?;
-    let [o, z, y, x] = t.corners();
-    let pieces = children(&t, 7);
-    let (oz, oy, ox) = (place(0, 0, 4)?, place(0, 4, 0)?, place(4, 0, 0)?);
-    assert_eq!(rt;
-        pieces.as_slice(),
-        [
-            tet([o, oz, ox, oy])?,
-            tet([oz, z, y, x])?,
-            tet([oz, oy, y, x])?,
-            tet([oz, oy, ox, x])?,
-        ]
-        .as_slice()
-    );
-    Ok(())
+fn one_marked_edge_gives_two_pieces(rt: HostRuntime) {
+    let pieces = children(&tet([O, Z, Y, X]), 1);
+    let wanted = [tet([O, OZ, Y, X]), tet([OZ, Z, Y, X])];
+    assert_eq!(rt; pieces.as_slice(), wanted.as_slice());
 }
 
 #[test]
-fn the_midpoint_of_the_lesser_pair_of_ends_is_joined_to_the_corner_across(
-    rt: HostRuntime,
-) -> Result<(), Fail> {
-    let (z, y, x) = (place(0, 0, 8)?, place(0, 8, 0)?, place(8, 0, 0)?);
-    let (zy, zx, yx) = (place(0, 4, 4)?, place(4, 0, 4)?, place(4, 4, 0)?);
-    let pieces = triangles([z, y, x], 7)?;
-    assert_eq!(rt;
-        pieces.as_slice(),
-        [[z, zy, zx], [zy, y, yx], [zy, zx, x], [zy, yx, x]].as_slice()
-    );
-    Ok(())
+fn of_two_equal_edges_the_one_with_the_lesser_ends_is_cut_first(rt: HostRuntime) {
+    let pieces = children(&tet([O, Z, Y, X]), 3);
+    let wanted = [tet([O, OZ, OY, X]), tet([OZ, Z, Y, X]), tet([OZ, OY, Y, X])];
+    assert_eq!(rt; pieces.as_slice(), wanted.as_slice());
 }
 
 #[test]
-fn a_marked_segment_is_halved(rt: HostRuntime) -> Result<(), Fail> {
-    let (o, m, x) = (place(0, 0, 0)?, place(4, 0, 0)?, place(8, 0, 0)?);
-    let whole = segments(o, x, 0)?;
-    assert_eq!(rt; whole.as_slice(), [[o, x]].as_slice());
-    let halves = segments(o, x, 1)?;
-    assert_eq!(rt; halves.as_slice(), [[o, m], [m, x]].as_slice());
-    Ok(())
+fn edges_without_a_whole_midpoint_stay(rt: HostRuntime) {
+    let (z, y, x) = ([0, 0, 1], [0, 2, 0], [2, 0, 0]);
+    let (oy, ox, yx) = ([0, 1, 0], [1, 0, 0], [1, 1, 0]);
+    let pieces = children(&tet([O, z, y, x]), 63);
+    let wanted = [
+        tet([O, z, oy, yx]),
+        tet([O, z, ox, yx]),
+        tet([z, oy, y, yx]),
+        tet([z, ox, yx, x]),
+    ];
+    assert_eq!(rt; pieces.as_slice(), wanted.as_slice());
+}
+
+#[test]
+fn the_midpoint_of_the_lesser_pair_of_ends_is_joined_to_the_corner_across(rt: HostRuntime) {
+    let (z, y, x) = (at(Z), at(Y), at(X));
+    let (zy, zx, yx) = (at(ZY), at(ZX), at(YX));
+    assert_eq!(rt;
+        marked_tri([z, y, x], &SizeField::uniform(rt.alloc(), 4)),
+        7
+    );
+    let pieces = triangles(z, y, x, 7);
+    let wanted = [[z, zy, zx], [zy, y, yx], [zy, zx, x], [zy, yx, x]];
+    assert_eq!(rt; pieces.as_slice(), wanted.as_slice());
+}
+
+#[test]
+fn a_marked_segment_is_halved_where_its_midpoint_is_whole(rt: HostRuntime) {
+    let (o, m, x) = (at(O), at(OX), at(X));
+    assert_eq!(rt; marked_seg([o, x], &SizeField::uniform(rt.alloc(), 4)), 1);
+    assert_eq!(rt; segments(o, x, 1).as_slice(), [[o, m], [m, x]].as_slice());
+    assert_eq!(rt; segments(o, x, 0).as_slice(), [[o, x]].as_slice());
+    assert_eq!(rt;
+        segments(o, at([7, 0, 0]), 1).as_slice(),
+        [[o, at([7, 0, 0])]].as_slice()
+    );
 }

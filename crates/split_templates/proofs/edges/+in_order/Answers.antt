@@ -1,7 +1,7 @@
 use Rattle.std.proofs.Common.{◌≡◌, ◌∷◌, ◌∙◌, ◌-◌, ◌/◌, ap, sym, length, map, take, drop, arith}
 use Rattle.ma_cells.specs.Ascending.{ascending_of, put}
 use Rattle.split_templates.specs.Edges.{chosen, edge_cmp}
-use Rattle.split_templates.specs.Ranks.{ranked}
+use Rattle.split_templates.specs.steps.Ranks.{ranked}
 use Rattle.split_templates.proofs.Sets.{length-put}
 use Rattle.split_templates.proofs.Cut.{head_and_rest}
 use Rattle.split_templates.proofs.Masks.{chosen-odd}

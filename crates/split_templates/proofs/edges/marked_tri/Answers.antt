@@ -8,4 +8,4 @@ pub returns-clause-long : goal.returns-clause-long
 returns-clause-long c =
     let long = is_long_edge c.args.field.now in
     let edges = edges_of c.args.t in
-    ap (λ mask. chosen mask edges) (c.long_ones.ensures.value ∙ ap (mask_of long) c.sides.ensures) ∙ chosen-mask_of long edges
+    ap (λ mask. chosen mask edges) (c.long_ones.ensures.value ∙ ap (mask_of long) c.tri_edges.ensures) ∙ chosen-mask_of long edges

@@ -9,8 +9,8 @@ use Rattle.split_templates.proofs.pieces.replaced.Goals as goal
 pub returns : goal.returns
 returns g c =
     let f = λ (p : Coordinates). cond (eq_by_cmp place_cmp c.args.old p) c.args.new p in
-    let is : c.move_all.new.places ≡ map f c.args.corners = c.move_all.ensures in
-    let count : length c.move_all.new.places ≡ g.row.N = omega arith in
-    let whole : length (ascending_of place_cmp c.move_all.new.places) ≡ length c.move_all.new.places = ap (λ places. length (ascending_of place_cmp places)) is ∙ c.requires ∙ sym count in
-    sorted_is c.move_all.new.places c.sort_unstable.new.self whole c.sort_unstable.ensures.permutation c.sort_unstable.ensures.sorted
+    let is : c.replace_all.new.places ≡ map f c.args.corners = c.replace_all.ensures in
+    let count : length c.replace_all.new.places ≡ g.row.N = omega arith in
+    let whole : length (ascending_of place_cmp c.replace_all.new.places) ≡ length c.replace_all.new.places = ap (λ places. length (ascending_of place_cmp places)) is ∙ c.requires ∙ sym count in
+    sorted_is c.replace_all.new.places c.sort_unstable.new.self whole c.sort_unstable.ensures.permutation c.sort_unstable.ensures.sorted
     ∙ ap (ascending_of place_cmp) is

@@ -10,7 +10,7 @@ use Rattle.split_templates.proofs.Cut.{ends_of, gathered_all, kept_by_all, room_
 use Rattle.split_templates.proofs.Ranked.{ends_in_order}
 use Rattle.split_templates.proofs.Shapes.{in_turn}
 use Rattle.split_templates.proofs.Tetrahedra.{all_are_corners}
-use Rattle.split_templates.proofs.split.tet_pieces.Goals as goal
+use Rattle.split_templates.proofs.split.pieces_of.Goals as goal
 
 pub cut_tet-requires-clause-kept : goal.cut_tet-requires-clause-kept
 cut_tet-requires-clause-kept c =

@@ -1,4 +1,4 @@
--- When bisections leave pieces with as many corners as the cell has.
+-- When bisections leave pieces with as many corners as the cell has. A step of the code, and no promise.
 use Rattle.std.specs.Prelude.{Bool, true, ◌&&◌, ◌==◌, length, List, [], ◌∷◌}
 use Rattle.std.specs.List.{list_all}
 use Rattle.ma_geom.specs.Coordinates.{Coordinates}

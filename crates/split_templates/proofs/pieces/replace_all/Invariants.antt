@@ -1,7 +1,7 @@
 use Rattle.std.proofs.Common.{◌≡◌, ◌++◌, map, take, drop, cond}
 use Rattle.std.specs.Ordering.{eq_by_cmp}
 use Rattle.ma_geom.specs.Coordinates.{place_cmp}
-use Rattle.split_templates.proofs.pieces.move_all.Given as goal
+use Rattle.split_templates.proofs.pieces.replace_all.Given as goal
 
 -- the corners so far are moved, and the others as they were
 abbrev pub invariant-loop-place : goal.invariant-loop-place

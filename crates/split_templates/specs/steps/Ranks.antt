@@ -1,4 +1,4 @@
--- Edges as the code keeps them, so that their derived order is that of edges.
+-- Edges as the code keeps them, so that their derived order is that of edges. A step of the code, and no promise.
 use Rattle.std.specs.Prelude.{neg_ℤ, List}
 use Rattle.ma_geom.specs.Coordinates.{Coordinates}
 use Rattle.split_templates.specs.Edges.{edge_len2}

@@ -1,4 +1,4 @@
--- Items put among ascending items one after the other.
+-- Items put among ascending items one after the other. A step of the code, and no promise.
 use Rattle.std.specs.Prelude.{List, [], ◌∷◌}
 use Rattle.std.specs.declared.cmp.Ordering.{Ordering}
 use Rattle.ma_cells.specs.Ascending.{put}
