@@ -1,15 +1,16 @@
 //! Which tetrahedra of a list overlap.
 #![tactic(auto)]
 
+mod boxes;
+mod cubes;
 mod exact;
 pub mod laws;
+mod overlaps;
 mod pairs;
-mod reach;
-mod sweep;
 mod vectors;
 
+pub use overlaps::first_overlap;
 pub use pairs::separated;
-pub use sweep::first_overlap;
 
 #[cfg(test)]
 mod tests;
