@@ -1,6 +1,6 @@
 -- Boxes that share an inner point touch the cube that has the greater of their low ends.
 use Rattle.std.proofs.Common.{◌≡◌, ◌<◌, ◌≤◌, ◌+◌, ◌-◌, ◌/◌, ◌^◌, ℕ, max, true, ap, arith}
-use Rattle.std.specs.Prelude.{ℤ, negsuc, ◌≤ℤ◌, ◌<ℤ◌, ◌&&◌, int_lt, List}
+use Rattle.std.specs.Prelude.{ℤ, ◌≤ℤ◌, ◌<ℤ◌, ◌&&◌, int_lt, List}
 use Rattle.std.specs.Int.{int_max}
 use Rattle.std.proofs.Math.Pow.{shr_mono}
 use Rattle.std.proofs.lemmas.Bool.{and_parts}
@@ -9,10 +9,10 @@ use Rattle.std.proofs.lemmas.Nat.{shr-shr, shr_below, shr_le}
 use Rattle.ma_geom.specs.Coordinates.{Coordinates}
 use Rattle.overlap_check.specs.declared.boxes.BoundingBox.{BoundingBox}
 use Rattle.overlap_check.specs.declared.boxes.Span.{Span}
-use Rattle.overlap_check.specs.steps.Boxes.{IsBox, boxes_meet, spans_meet}
+use Rattle.overlap_check.specs.steps.Boxes.{IsBox, boxes_meet, least_stored, spans_meet}
 use Rattle.overlap_check.specs.steps.Cubes.{IsTouched, Touches, height, home, meeting}
 
-rises : (v w : ℤ) → negsuc 2_147_483_647 ≤ℤ v → v ≤ℤ w → height v ≤ height w
+rises : (v w : ℤ) → least_stored ≤ℤ v → v ≤ℤ w → height v ≤ height w
 rises v w stored h = omega (arith, ints)
 
 less : (v w : ℤ) → int_lt v w ≡ true → v <ℤ w
@@ -25,13 +25,13 @@ second_low : (v w : ℤ) → w ≤ℤ int_max v w
 second_low v w = grind (arith, ints, clamps)
 
 -- the greater of two low ends is a low end, or below the high end
-first_high : (v w h : ℤ) → negsuc 2_147_483_647 ≤ℤ v → negsuc 2_147_483_647 ≤ℤ w → w <ℤ h → height (int_max v w) ≤ max (height v) (height h - 1)
+first_high : (v w h : ℤ) → least_stored ≤ℤ v → least_stored ≤ℤ w → w <ℤ h → height (int_max v w) ≤ max (height v) (height h - 1)
 first_high v w h first second below = grind (arith, ints, clamps)
 
-second_high : (v w h : ℤ) → negsuc 2_147_483_647 ≤ℤ v → negsuc 2_147_483_647 ≤ℤ w → v <ℤ h → height (int_max v w) ≤ max (height w) (height h - 1)
+second_high : (v w h : ℤ) → least_stored ≤ℤ v → least_stored ≤ℤ w → v <ℤ h → height (int_max v w) ≤ max (height w) (height h - 1)
 second_high v w h first second below = grind (arith, ints, clamps)
 
-spans_touch : (k : ℕ) (s t : Span) → negsuc 2_147_483_647 ≤ℤ s.low → negsuc 2_147_483_647 ≤ℤ t.low → spans_meet s t ≡ true → IsTouched k s (meeting k s t) × IsTouched k t (meeting k s t)
+spans_touch : (k : ℕ) (s t : Span) → least_stored ≤ℤ s.low → least_stored ≤ℤ t.low → spans_meet s t ≡ true → IsTouched k s (meeting k s t) × IsTouched k t (meeting k s t)
 spans_touch k s t s_stored t_stored h =
     let ends = and_parts (int_lt s.low t.high) (int_lt t.low s.high) h in (
       record {
@@ -53,9 +53,9 @@ home_touched k a b r s left right h =
     let along_z = spans_touch k r.z s.z left.z.stored right.z.stored inner.1 in
     (record { x = along_x.0; y = along_y.0; z = along_z.0 }, record { x = along_x.1; y = along_y.1; z = along_z.1 })
 
--- one more than the place of a cube is stored
-pub place_fits : (n k : ℕ) → n < 2 ^ 32 → 1 ≤ k → n / 2 ^ k + 1 < 2 ^ 32
-place_fits n k h one =
+-- one more than the number of a cube is stored
+pub number_fits : (n k : ℕ) → n < 2 ^ 32 → 1 ≤ k → n / 2 ^ k + 1 < 2 ^ 32
+number_fits n k h one =
     let halved : n / 2 ^ 1 / 2 ^ (k - 1) ≡ n / 2 ^ (1 + (k - 1)) = shr-shr n 1 (k - 1) in
     let same : n / 2 ^ (1 + (k - 1)) ≡ n / 2 ^ k = ap (λ j. n / 2 ^ j) (omega arith) in
     let below : n / 2 ^ 1 / 2 ^ (k - 1) ≤ n / 2 ^ 1 = shr_le (n / 2 ^ 1) (k - 1) in

@@ -1,7 +1,7 @@
 -- Spans around the values of a form.
 use Rattle.std.proofs.Common.{◌≡◌, ◌≤◌, ◌^◌, sym, inl, inr, true, false, List, [], ◌∷◌, length, map, get_or, refl, ap, ◌∙◌, arith}
 use Rattle.std.proofs.lemmas.Bool.{and_cases, and_from, and_parts, or_left, or_right}
-use Rattle.std.specs.Prelude.{ℤ, negsuc, ◌≤ℤ◌, ◌&&◌, int_le, int_lt, FitsSigned, unsigned_abs}
+use Rattle.std.specs.Prelude.{ℤ, ◌≤ℤ◌, ◌&&◌, int_le, int_lt, FitsSigned, unsigned_abs}
 use Rattle.std.specs.List.{list_all}
 use mir.Syntax.{w32}
 use mir.Val.{to_z, of_z}
@@ -10,7 +10,7 @@ use Rattle.ma_geom.specs.Coordinates.{Coordinates}
 use Rattle.ma_geom.specs.Volume.{dot}
 use Rattle.overlap_check.specs.Forms.{x_axis, y_axis, z_axis}
 use Rattle.overlap_check.specs.Overlap.{are_apart, is_below}
-use Rattle.overlap_check.specs.steps.Boxes.{IsSpan, is_within, spans_meet}
+use Rattle.overlap_check.specs.steps.Boxes.{IsSpan, is_within, least_stored, spans_meet}
 use Rattle.overlap_check.specs.declared.boxes.Span.{Span}
 use Rattle.overlap_check.proofs.Values.{dot-x_axis, dot-y_axis, dot-z_axis, four}
 
@@ -20,7 +20,7 @@ within_ends l h v lfits hfits low high = grind (arith, ints, to_z-of_z)
 
 pub spanned : (n : Coordinates) (places : List Coordinates) (a b c d : Coordinates) (s : Span) → length places ≡ 4
     → is_within s (dot n (get_or places 0 a)) ≡ true → is_within s (dot n (get_or places 1 b)) ≡ true → is_within s (dot n (get_or places 2 c)) ≡ true → is_within s (dot n (get_or places 3 d)) ≡ true
-    → negsuc 2_147_483_647 ≤ℤ s.low → IsSpan n places s
+    → least_stored ≤ℤ s.low → IsSpan n places s
 spanned n places a b c d s long ha hb hc hd stored = record {
   all = ap (λ ps. list_all (is_within s) (map (dot n) ps)) (four places a b c d long) ∙ (λ i. ha i && (hb i && (hc i && (hd i && true))));
   stored = stored;

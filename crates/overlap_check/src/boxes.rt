@@ -1,7 +1,7 @@
 // Boxes around tetrahedra.
-ghost use Rattle.std.specs.Prelude.{◌≡◌, ◌≤ℤ◌, ◌&&◌, IfOk, int_lt, negsuc, true};
+ghost use Rattle.std.specs.Prelude.{◌≡◌, ◌≤ℤ◌, ◌&&◌, IfOk, int_lt, true};
 ghost use Rattle.overlap_check.specs.Forms.{x_axis, y_axis, z_axis};
-ghost use Rattle.overlap_check.specs.steps.Boxes.{AreBoxes, IsBox, IsSpan, boxes_meet, is_within, spans_meet};
+ghost use Rattle.overlap_check.specs.steps.Boxes.{AreBoxes, IsBox, IsSpan, boxes_meet, is_within, least_stored, spans_meet};
 
 use ma_cells::Tet;
 use ma_geom::Memory;
@@ -21,7 +21,7 @@ impl Span {
         ensures second { is_within result b ≡ true }
         ensures third { is_within result c ≡ true }
         ensures fourth { is_within result d ≡ true }
-        ensures stored { negsuc 2_147_483_647 ≤ℤ result.low }
+        ensures stored { least_stored ≤ℤ result.low }
     {
         Span {
             low: a.min(b).min(c).min(d),

@@ -7,13 +7,13 @@ use ma_geom::Memory;
 use std::alloc::Global;
 use std::ops::Range;
 
-/// The greatest side that cubes have is two to the power of this.
+/// The greatest side of cubes is two to the power of this. Places span so much along an axis.
 const GREATEST_SHIFT: u32 = 31;
 
-/// How many touches a box may have on average, if the cubes' side allows it.
+/// How many cubes a box may touch on average.
 const TOUCHES_PER_BOX: usize = 4;
 
-/// A cube of the grid, by its places along the axes.
+/// A cube of the grid, by its numbers along the axes.
 #[derive(Clone, Copy, Debug, PartialEq, Eq, PartialOrd, Ord)]
 pub(crate) struct Cube {
     pub(crate) x: u32,
@@ -37,14 +37,15 @@ pub(crate) struct Cubes {
 }
 
 impl Cubes {
-    /// The place along an axis of the cube that has a coordinate.
-    fn place(&self, c: i32) -> u32
+    /// The number along an axis of the cube that has a coordinate.
+    fn number(&self, c: i32) -> u32
         ensures { result ≡ height c / 2 ^ self.now.shift }
     {
         c.abs_diff(i32::MIN) >> self.shift
     }
 
-    /// The places of the cubes that a span touches along an axis, without those that have its greatest number alone: boxes that share an inner point share one below it.
+    /// The numbers of the cubes that a span touches along an axis. One that has its greatest number
+    /// alone is left out, since boxes that share an inner point share one below that.
     fn touched(&self, span: &Span) -> Range<u32>
         ensures start { result.start ≡ first_touched self.now.shift span.now }
         ensures end { result.end ≡ last_touched self.now.shift span.now + 1 }
@@ -59,9 +60,9 @@ impl Cubes {
         ensures { result ≡ home self.now.shift a.now b.now }
     {
         Cube {
-            x: self.place(a.x.low.max(b.x.low)),
-            y: self.place(a.y.low.max(b.y.low)),
-            z: self.place(a.z.low.max(b.z.low)),
+            x: self.number(a.x.low.max(b.x.low)),
+            y: self.number(a.y.low.max(b.y.low)),
+            z: self.number(a.z.low.max(b.z.low)),
         }
     }
 
@@ -82,7 +83,8 @@ impl Cubes {
         Some(most - left)
     }
 
-    /// The least cubes that the boxes touch `TOUCHES_PER_BOX` of on average, or the greatest ones.
+    /// The smallest cubes of which the boxes touch at most `TOUCHES_PER_BOX` each on average, or the
+    /// greatest ones, of which a box touches eight at most.
     pub(crate) fn for_boxes(boxes: &[BoundingBox]) -> Cubes {
         let most = boxes.len().saturating_mul(TOUCHES_PER_BOX);
         for shift in 1..GREATEST_SHIFT {
@@ -97,7 +99,7 @@ impl Cubes {
     }
 }
 
-/// Appends the cubes of a row.
+/// Appends the cubes of one row that a box touches.
 fn push_row(
     touches: &mut Vec<Touch>,
     x: u32,
@@ -114,7 +116,7 @@ fn push_row(
     Ok(())
 }
 
-/// Appends the cubes of a slab.
+/// Appends the cubes of one slab that a box touches.
 fn push_slab(
     touches: &mut Vec<Touch>,
     x: u32,
@@ -150,7 +152,7 @@ fn push_touched(
 
 /// The cubes that the boxes touch, in order.
 ///
-/// It is out of memory where there are more boxes than 32 bits count.
+/// More boxes than 32 bits count are taken for want of memory: they would fill hundreds of gigabytes.
 pub(crate) fn touches(
     alloc: Global,
     cubes: &Cubes,

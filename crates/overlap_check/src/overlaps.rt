@@ -14,7 +14,8 @@ use ma_cells::Tet;
 use ma_geom::Memory;
 use std::alloc::Global;
 
-/// Whether the tetrahedron of a touch overlaps that of a second one, which comes later and has its home in the same cube.
+/// Whether the tetrahedra of two touches of a cube overlap, the first comes first, and the cube is
+/// the home of their boxes: so a pair that touches several cubes is looked at in one.
 fn overlap(tets: &[Tet], boxes: &[BoundingBox], cubes: &Cubes, touch: &Touch, other: &Touch) -> bool
     requires boxes { AreBoxes tets.now boxes.now }
     requires touch { touch.now.tet < length tets.now }
@@ -29,7 +30,7 @@ fn overlap(tets: &[Tet], boxes: &[BoundingBox], cubes: &Cubes, touch: &Touch, ot
         && !separated(&tets[i], &tets[j])
 }
 
-/// Whether the tetrahedron of a touch overlaps one of those whose touches come next and are of the same cube.
+/// Whether the tetrahedron of a touch overlaps one of those that come next in its cube.
 fn overlaps_later(
     tets: &[Tet],
     boxes: &[BoundingBox],
@@ -108,8 +109,12 @@ fn pair_from(tets: &[Tet], first: usize) -> Option<(usize, usize)>
 /// The lexicographically least pair of places, counted from 0, whose tetrahedra overlap. None where
 /// none do.
 ///
-/// It lists the cubes of a grid that the box around each tetrahedron touches, about as large as most boxes, and compares the tetrahedra that touch one cube: n log n steps where few boxes lie over one place, and n * n where most do. The tetrahedra themselves are looked at only where their boxes meet. At last
-/// it goes over the list once more, for the partner of the first that overlaps a later one.
+/// It lists which cubes of a grid the box around each tetrahedron touches, sorts this list, and
+/// compares the tetrahedra that touch one cube. The cubes are as small as they can be where a box
+/// touches four on average. So it takes n log n steps where no cube is touched by many boxes, n * n
+/// where one is touched by most, and always linear memory. The tetrahedra themselves are looked at
+/// only where their boxes share an inner point. At last it goes over the list once more, for the
+/// partner of the first that overlaps a later one.
 pub fn first_overlap(alloc: Global, tets: &[Tet]) -> Result<Option<(usize, usize)>, Memory>
     ensures { IfOk result (λ pair. pair ≡ first_overlap_of tets.now) }
 {

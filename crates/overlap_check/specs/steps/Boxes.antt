@@ -9,6 +9,10 @@ use Rattle.overlap_check.specs.declared.boxes.BoundingBox.{BoundingBox}
 use Rattle.overlap_check.specs.declared.boxes.Span.{Span}
 use Rattle.overlap_check.specs.steps.Pairs.{corners_at}
 
+-- the least number that 32 bits store
+abbrev pub least_stored : ℤ
+least_stored = negsuc 2_147_483_647
+
 abbrev pub is_within : Span → ℤ → Bool
 is_within s v = int_le s.low v && int_le v s.high
 
@@ -19,7 +23,7 @@ spans_meet s t = int_lt s.low t.high && int_lt t.low s.high
 -- that the span has the values of the form at these places
 pub record IsSpan (n : Coordinates) (places : List Coordinates) (s : Span) : Type 0 where
   pub all : list_all (is_within s) (map (dot n) places) ≡ true
-  pub stored : negsuc 2_147_483_647 ≤ℤ s.low
+  pub stored : least_stored ≤ℤ s.low
 
 -- that the box is around the corners
 pub record IsBox (corners : List Coordinates) (r : BoundingBox) : Type 0 where

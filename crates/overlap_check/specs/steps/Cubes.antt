@@ -1,5 +1,5 @@
 -- Steps of the code and no promise: a grid of cubes of the side 2^k, and which of them boxes touch.
-use Rattle.std.specs.Prelude.{ℕ, ℤ, pos, true, false, ◌≡◌, ◌<◌, ◌≤◌, ◌+◌, ◌-◌, ◌/◌, ◌^◌, ◌-ℤ◌, ◌⊎◌, max, negsuc, unsigned_abs, slice_index_or, length, List}
+use Rattle.std.specs.Prelude.{ℕ, ℤ, pos, true, false, ◌≡◌, ◌<◌, ◌≤◌, ◌-◌, ◌/◌, ◌^◌, ◌-ℤ◌, ◌⊎◌, max, unsigned_abs, slice_index_or, length, List}
 use Rattle.std.specs.Int.{int_max}
 use Rattle.std.specs.List.{Contains}
 use Rattle.ma_cells.specs.Tetrahedron.{Tetrahedron}
@@ -7,11 +7,12 @@ use Rattle.overlap_check.specs.declared.boxes.BoundingBox.{BoundingBox}
 use Rattle.overlap_check.specs.declared.boxes.Span.{Span}
 use Rattle.overlap_check.specs.declared.cubes.Cube.{Cube}
 use Rattle.overlap_check.specs.declared.cubes.Touch.{Touch}
+use Rattle.overlap_check.specs.steps.Boxes.{least_stored}
 use Rattle.overlap_check.specs.steps.Pairs.{are_overlapping}
 
--- how far a coordinate is above the least one that 32 bits store
+-- how far a coordinate is above the least number that is stored
 abbrev pub height : ℤ → ℕ
-height v = unsigned_abs (v -ℤ negsuc 2_147_483_647)
+height v = unsigned_abs (v -ℤ least_stored)
 
 -- the cubes along an axis that a span touches: from that of its least number to that of the last before its greatest, or the one cube of a span of one number
 abbrev pub first_touched : ℕ → Span → ℕ

@@ -1,5 +1,4 @@
-use Rattle.std.proofs.Common.{◌<◌, List, [], length, sym, subst, arith}
-use Rattle.std.specs.List.{All}
+use Rattle.std.proofs.Common.{◌<◌, List, [], length, subst}
 use Rattle.std.proofs.lemmas.List.Elements.{All-same}
 use Rattle.overlap_check.specs.declared.boxes.BoundingBox.{BoundingBox}
 use Rattle.overlap_check.specs.declared.cubes.Touch.{Touch}

@@ -1,4 +1,4 @@
-use Rattle.std.proofs.Common.{◌≡◌, ◌<◌, true, false, length, get_or, sym, ◌∙◌, arith}
+use Rattle.std.proofs.Common.{◌≡◌, ◌<◌, true, get_or, sym, ◌∙◌}
 use Rattle.overlap_check.specs.steps.Cubes.{no_box}
 use Rattle.overlap_check.proofs.AtPlaces.{apart_at, below, differ, none_before, overlap_is}
 use Rattle.overlap_check.proofs.BoxesApart.{boxes_apart}

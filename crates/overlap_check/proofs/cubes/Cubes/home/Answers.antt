@@ -5,7 +5,7 @@ use Rattle.overlap_check.proofs.cubes.Cubes.home.Goals as goal
 
 pub returns : goal.returns
 returns c =
-    let x : c.place.result ≡ meeting c.args.self.now.shift c.args.a.now.x c.args.b.now.x = grind (arith, to_z-of_z, c.place.ensures, c.max.ensures.value) in
-    let y : c.place-2.result ≡ meeting c.args.self.now.shift c.args.a.now.y c.args.b.now.y = grind (arith, to_z-of_z, c.place-2.ensures, c.max-2.ensures.value) in
-    let z : c.place-3.result ≡ meeting c.args.self.now.shift c.args.a.now.z c.args.b.now.z = grind (arith, to_z-of_z, c.place-3.ensures, c.max-3.ensures.value) in
+    let x : c.number.result ≡ meeting c.args.self.now.shift c.args.a.now.x c.args.b.now.x = grind (arith, to_z-of_z, c.number.ensures, c.max.ensures.value) in
+    let y : c.number-2.result ≡ meeting c.args.self.now.shift c.args.a.now.y c.args.b.now.y = grind (arith, to_z-of_z, c.number-2.ensures, c.max-2.ensures.value) in
+    let z : c.number-3.result ≡ meeting c.args.self.now.shift c.args.a.now.z c.args.b.now.z = grind (arith, to_z-of_z, c.number-3.ensures, c.max-3.ensures.value) in
     λ i. record { x = x i; y = y i; z = z i }
