@@ -6,7 +6,7 @@ folder="$(mktemp -d)"
 trap 'rm -rf "$folder"' EXIT
 cd "$folder"
 
-# Runs the program on the mesh file $1 with the size $2 and $3 rounds, and tells its status, wall time and peak memory.
+# Runs the program on the mesh file $1 with the size $2 and $3 rounds, and tells its status, wall time, processor time and peak memory.
 measure() {
     python3 - "$program" "$@" <<'END'
 import os, sys, time
@@ -15,6 +15,6 @@ words = f"--plain --mesh {mesh} --uniform {size} --rounds {rounds} --collapse 0 
 start = time.perf_counter()
 pid = os.spawnv(os.P_NOWAIT, program, [program, *words])
 _, status, usage = os.wait4(pid, 0)
-print(f"status {os.waitstatus_to_exitcode(status)}, {time.perf_counter() - start:.2f} s, {usage.ru_maxrss // 1024} MB", flush=True)
+print(f"status {os.waitstatus_to_exitcode(status)}, {time.perf_counter() - start:.2f} s, {usage.ru_utime + usage.ru_stime:.2f} s of one processor, {usage.ru_maxrss // 1024} MB", flush=True)
 END
 }

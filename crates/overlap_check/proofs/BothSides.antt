@@ -1,4 +1,4 @@
--- Two separated tetrahedra with a face in common lie on different sides of it: the form that parts them is one number over the face.
+-- Two separated tetrahedra with a face in common lie on different sides of it: the form that separates them is one number over the face.
 use Rattle.std.proofs.Common.{◌≡◌, ◌≢◌, inl, inr, Bool, true, false, not, ◌&&◌, List, [], ◌∷◌, refl, sym, ap, subst, ◌∙◌, arith}
 use Rattle.std.specs.Prelude.{ℤ, pos, neg_ℤ, ◌+ℤ◌, ◌-ℤ◌, ◌*ℤ◌, ◌<ℤ◌, int_le, map}
 use Rattle.std.specs.List.{list_all}
@@ -21,7 +21,7 @@ use Rattle.ma_cover.specs.Inside.{are_alike}
 use Rattle.ma_cells.proofs.Pieces.{solid_corners}
 use Rattle.overlap_check.specs.Overlap.{are_separated, is_below}
 use Rattle.overlap_check.proofs.FormValues.{level_is_zero}
-use Rattle.overlap_check.proofs.InnerPoints.{parted}
+use Rattle.overlap_check.proofs.InnerPoints.{separating_form}
 use Rattle.ma_cover.proofs.Halves.{either_way}
 
 -- ---- a form over five places
@@ -129,7 +129,7 @@ solid u v w d corners are order =
 
 pub separated_lie_on_both_sides : (a b : List Coordinates) → are_corners a ≡ true → are_corners b ≡ true → are_separated a b ≡ true → LieOnBothSides a b
 separated_lie_on_both_sides a b are_a are_b apart u v w d e order_a order_b =
-    let by = parted a b apart in
+    let by = separating_form a b apart in
     let solid_d = solid u v w d a are_a order_a in
     let solid_e = solid u v w e b are_b order_b in
     elim by.below [

@@ -249,8 +249,8 @@ below_share_none p n a b slanted below in_a in_b =
     (strictly_below n p a (dot n second.a) slanted first all.0) (strictly_below n p a (dot n second.b) slanted first all.1)
     (strictly_below n p a (dot n second.c) slanted first all.2) (strictly_below n p a (dot n second.d) slanted first all.3)
 
--- a form that parts two tetrahedra, the first of which may be the lower
-pub record IsParted (a b : List Coordinates) : Type 0 where
+-- a form that separates two tetrahedra, the first of which may be the lower
+pub record SeparatingForm (a b : List Coordinates) : Type 0 where
   pub n : Coordinates
   pub slanted : is_zero n ≡ false
   pub below : (is_below (map (dot n) a) (map (dot n) b) ≡ true) ⊎ (is_below (map (dot n) b) (map (dot n) a) ≡ true)
@@ -263,9 +263,9 @@ passing f (n ∷ ns) h =
       | false ↦ λ _ k. passing f ns k
     ] refl h
 
-pub parted : (a b : List Coordinates) → are_separated a b ≡ true → IsParted a b
+pub separating_form : (a b : List Coordinates) → are_separated a b ≡ true → SeparatingForm a b
 unfolding are_separated
-parted a b h =
+separating_form a b h =
     let found = passing (λ n. is_apart n a b) (forms a b) h in
     let n = found.0 in
     let parts = both (is_zero n) (are_apart (map (dot n) a) (map (dot n) b)) found.1 in
@@ -277,7 +277,7 @@ parted a b h =
 
 pub separated_share_no_point : (p : Rational) (a b : List Coordinates) → are_separated a b ≡ true → is_inside p a ≡ true → is_inside p b ≡ true → ⊥
 separated_share_no_point p a b h in_a in_b =
-    let by = parted a b h in
+    let by = separating_form a b h in
     elim by.below [
       | inl below ↦ below_share_none p by.n a b by.slanted below in_a in_b
       | inr below ↦ below_share_none p by.n b a by.slanted below in_b in_a

@@ -8,8 +8,8 @@ use Rattle.std.proofs.lemmas.List.{drop_all, get_or_default}
 use Rattle.std.proofs.lemmas.List.Quantifiers.{position-Some}
 use Rattle.ma_cells.specs.Tetrahedron.{Tetrahedron}
 use Rattle.overlap_check.specs.Overlap.{are_separated, first_overlap_of, further, overlap}
-use Rattle.overlap_check.specs.Sweep.{IsStart, are_overlapping, corners_at, pair_from}
-use Rattle.overlap_check.proofs.Boxes.{overlap_is, overlap_tells}
+use Rattle.overlap_check.specs.steps.Pairs.{IsStart, are_overlapping, corners_at, pair_from}
+use Rattle.overlap_check.proofs.AtPlaces.{overlap_is, overlap_tells}
 
 -- ---- the first place that passes
 passed_by : {X : Type 0} (p : X → Bool) (xs : List X) (j : ℕ) (d : X) → j < length xs → p (get_or xs j d) ≡ true → position_or_len p xs < length xs

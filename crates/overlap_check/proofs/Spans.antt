@@ -10,8 +10,8 @@ use Rattle.ma_geom.specs.Coordinates.{Coordinates}
 use Rattle.ma_geom.specs.Volume.{dot}
 use Rattle.overlap_check.specs.Forms.{x_axis, y_axis, z_axis}
 use Rattle.overlap_check.specs.Overlap.{are_apart, is_below}
-use Rattle.overlap_check.specs.Sweep.{IsSpan, is_within, spans_meet}
-use Rattle.overlap_check.specs.declared.reach.Span.{Span}
+use Rattle.overlap_check.specs.steps.Boxes.{IsSpan, is_within, least_stored, spans_meet}
+use Rattle.overlap_check.specs.declared.boxes.Span.{Span}
 use Rattle.overlap_check.proofs.Values.{dot-x_axis, dot-y_axis, dot-z_axis, four}
 
 -- ---- spans
@@ -20,9 +20,10 @@ within_ends l h v lfits hfits low high = grind (arith, ints, to_z-of_z)
 
 pub spanned : (n : Coordinates) (places : List Coordinates) (a b c d : Coordinates) (s : Span) → length places ≡ 4
     → is_within s (dot n (get_or places 0 a)) ≡ true → is_within s (dot n (get_or places 1 b)) ≡ true → is_within s (dot n (get_or places 2 c)) ≡ true → is_within s (dot n (get_or places 3 d)) ≡ true
-    → IsSpan n places s
-spanned n places a b c d s long ha hb hc hd = record {
+    → least_stored ≤ℤ s.low → IsSpan n places s
+spanned n places a b c d s long ha hb hc hd stored = record {
   all = ap (λ ps. list_all (is_within s) (map (dot n) ps)) (four places a b c d long) ∙ (λ i. ha i && (hb i && (hc i && (hd i && true))));
+  stored = stored;
 }
 
 stored : (v : ℤ) → unsigned_abs v ≤ 2 ^ 30 → to_z w32 (of_z w32 v) ≡ v

@@ -1,4 +1,4 @@
 pub mod Forms
 pub mod Overlap
-pub mod Sweep
 pub mod Laws
+pub mod steps

@@ -20,7 +20,7 @@ are_apart vs ws = is_below vs ws || is_below ws vs
 abbrev pub is_apart : Coordinates → List Coordinates → List Coordinates → Bool
 is_apart n a b = not (is_zero n) && are_apart (map (dot n) a) (map (dot n) b)
 
--- whether a form parts the two, which are given by their corners. They may touch
+-- whether a form separates the two, which are given by their corners. They may touch
 unfoldable pub are_separated : List Coordinates → List Coordinates → Bool
 are_separated a b = list_any (λ n. is_apart n a b) (forms a b)
 

@@ -1,13 +1,14 @@
 //! Which tetrahedra of a list overlap.
 #![tactic(auto)]
 
+mod boxes;
+mod cubes;
 pub mod laws;
+mod overlaps;
 mod pairs;
-mod reach;
-mod sweep;
 
+pub use overlaps::first_overlap;
 pub use pairs::separated;
-pub use sweep::first_overlap;
 
 #[cfg(test)]
 mod tests;

@@ -72,10 +72,19 @@ fn tetrahedra_that_touch_are_separated(rt: HostRuntime) {
 }
 
 #[test]
-fn two_edges_alone_can_part_tetrahedra(rt: HostRuntime) {
+fn two_edges_alone_can_separate_tetrahedra(rt: HostRuntime) {
     let one = [[-2, -2, -2], [-1, 1, -2], [0, 0, 1], [0, 2, -2]];
     let other = [[-1, -1, 0], [1, -1, -2], [2, -1, -1], [2, 0, -2]];
     assert_eq!(rt; apart(one, other), Some(true));
+}
+
+#[test]
+fn a_sliver_in_common_is_an_overlap(rt: HostRuntime) {
+    let lower = [[0, 0, 0], [120, 0, 0], [0, 120, 0], [0, 0, -120]];
+    let dipping = [[0, 0, 0], [120, 0, 0], [1, 118, -1], [0, 0, 120]];
+    let level = [[0, 0, 0], [120, 0, 0], [1, 118, 0], [0, 0, 120]];
+    assert_eq!(rt; apart(lower, dipping), Some(false));
+    assert_eq!(rt; apart(lower, level), Some(true));
 }
 
 #[test]
