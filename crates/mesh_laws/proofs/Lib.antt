@@ -8,3 +8,5 @@ pub mod Keyed
 pub mod Oddly
 pub mod Regions
 pub mod Sounds
+pub mod FiveSigns
+pub mod FivePlaces

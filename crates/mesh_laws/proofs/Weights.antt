@@ -79,7 +79,7 @@ weight_turn : (a b c d : Coordinates) (p : Rational) → weight b c a d p ≡ we
 weight_turn a b c d p = ap₂ (λ s t. s *ℤ t) (vol6_turn_abc a b c d) (side_turn a b c p)
 
 module _ (a b c d : Coordinates) where
-  turned_a : vol6 b c d a ≡ neg_ℤ (vol6 a b c d)
+  pub turned_a : vol6 b c d a ≡ neg_ℤ (vol6 a b c d)
   turned_a = vol6_exchange_cd b c a d ∙ ap neg_ℤ (vol6_turn_abc a b c d)
 
   -- no face of a tetrahedron that isn't flat makes it flat

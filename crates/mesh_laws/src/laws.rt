@@ -1,5 +1,6 @@
 //! Each law is the contract of a function that does nothing.
 ghost use Rattle.mesh_laws.specs.Covers.{CoverStaysAtMost, RegionsGiveWholeCover, SameCoverIsHandedOn, SameCoverStaysAtMost};
+ghost use Rattle.mesh_laws.specs.FivePlaces.{FivePlacesCancel};
 ghost use Rattle.mesh_laws.specs.Parity.{OddFacesDecideParity};
 ghost use Rattle.mesh_laws.specs.Points.{OnlyPointsAreInside, PointsMoveOffFaces, PointsMoveOffPlanes};
 ghost use Rattle.mesh_laws.specs.Sides.{NoFaceHasThree, OnceLieOnBothSides, OneSideHasCommonPoint, TetrahedronHasPoint};
@@ -98,4 +99,9 @@ pub fn odd_marked_is_sound()
 /// So is one that covers the same as a sound mesh.
 pub fn same_cover_stays_sound()
     ensures { SameCoverStaysSound }
+{}
+
+/// The five tetrahedra of five places enclose a point in opposite ways, or not at all.
+pub fn five_places_cancel()
+    ensures { FivePlacesCancel }
 {}
