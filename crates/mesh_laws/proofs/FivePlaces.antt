@@ -18,7 +18,7 @@ use Rattle.ma_geom.proofs.Ring.{var, con, neg, ◌⊕◌, ◌⊖◌, ◌⊗◌, 
 use Rattle.ma_cells.specs.Faces.{faces_of}
 use Rattle.ma_cover.specs.Inside.{are_alike, is_beside, is_inside}
 use Rattle.mesh_laws.specs.FivePlaces.{FivePlacesCancel, enclosed}
-use Rattle.mesh_laws.specs.Sides.{IsOffPlane}
+use Rattle.mesh_laws.specs.Points.{IsOffPlane}
 use Rattle.mesh_laws.proofs.FiveSigns.{alike, can_cancel, is_minus, is_plus, is_strict_or_flat, is_zero, number, product, signs_cancel, turned, turns, within, within_is}
 use Rattle.mesh_laws.proofs.Keyed.{total}
 use Rattle.mesh_laws.proofs.MovedOff.{bent, point_or_not}

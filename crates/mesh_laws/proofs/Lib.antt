@@ -10,3 +10,4 @@ pub mod Regions
 pub mod Sounds
 pub mod FiveSigns
 pub mod FivePlaces
+pub mod Listings

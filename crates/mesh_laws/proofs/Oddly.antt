@@ -3,7 +3,7 @@ use Rattle.std.proofs.Common.{◌≡◌, ◌⊎◌, inl, inr, ℕ, zero, suc, �
 use Rattle.std.specs.Prelude.{not}
 use Rattle.std.specs.List.{AllByRecursion, count_by, flat_map}
 use Rattle.std.proofs.lemmas.Bool.{and_parts, false≢true}
-use Rattle.mesh_laws.specs.Parity.{OddFacesDecideParity, is_odd}
+use Rattle.mesh_laws.specs.Parity.{SameOddlyPassOddly, is_odd}
 use Rattle.mesh_laws.proofs.BothSides.{same, same_is, same_itself}
 use Rattle.mesh_laws.proofs.Keyed.{at, total, total-alike, total-append, total-each, total-none}
 use Rattle.mesh_laws.proofs.Lists.{all_items, count-cons}
@@ -168,6 +168,6 @@ module _ {X K : Type 0} (key : X → K) (same : K → K → Bool) (same_is : (k 
         by (inr none) = absurd (false≢true (sym (cancelled xs none) ∙ h))
 
 -- ---- faces
-pub odd_faces_decide_parity : OddFacesDecideParity
-odd_faces_decide_parity faces others alike test =
+pub same_oddly_pass_oddly : SameOddlyPassOddly
+same_oddly_pass_oddly faces others alike test =
     odd_is test faces ∙ odd-alike (λ face. face) same same_is same_itself test faces others (λ face. sym (odd_is (same face) faces) ∙ alike face ∙ odd_is (same face) others) ∙ sym (odd_is test others)

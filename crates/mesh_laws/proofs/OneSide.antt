@@ -14,8 +14,8 @@ use Rattle.ma_cells.specs.Faces.{faces_of}
 use Rattle.ma_cells.proofs.Passing.{all_weaker}
 use Rattle.ma_cover.specs.Inside.{are_alike, is_inside}
 use Rattle.ma_cover.proofs.OffFaces.{inside_is_off_faces}
-use Rattle.mesh_laws.specs.Points.{IsMovedOffPlane}
-use Rattle.mesh_laws.specs.Sides.{IsOffPlane, OneSideHasCommonPoint, TetrahedronHasPoint}
+use Rattle.mesh_laws.specs.Points.{IsMovedOffPlane, IsOffPlane}
+use Rattle.mesh_laws.specs.Sides.{OneSideHasCommonPoint, TetrahedronHasPoint}
 use Rattle.mesh_laws.proofs.Lists.{all_split}
 use Rattle.mesh_laws.proofs.Moved.{alike_multiple, bound, points_move_off_planes}
 use Rattle.mesh_laws.proofs.MovedOff.{moved_off}
@@ -183,19 +183,12 @@ one_side_has_common_point u v w d e triangles alike =
       record {
         first = (moved_off p q s (not_flat (vol6 u v w d) some.0) parts.0).inside (inside_is_off_faces p s common.first) ∙ common.first;
         second = (moved_off p q t (not_flat (vol6 u v w e) some.1) rest.0).inside (inside_is_off_faces p t common.second) ∙ common.second;
-        off = all_weaker (IsMovedOffPlane p q) (IsOffPlane q) (off p q) triangles rest.1;
+        off = all_weaker (IsMovedOffPlane p q) (IsOffPlane q) (λ _ moved. moved.off) triangles rest.1;
       },
     )
   where
     not_flat : (x : ℤ) → x ≢ pos 0 → int_eq x (pos 0) ≡ false
     not_flat x h = grind (arith, ints)
-
-    off : (p q : Rational) (triangle : List Coordinates) → IsMovedOffPlane p q triangle → IsOffPlane q triangle
-    off p q (a ∷ b ∷ c ∷ []) moved = moved.off
-    off p q [] moved = tt
-    off p q (a ∷ []) moved = tt
-    off p q (a ∷ b ∷ []) moved = tt
-    off p q (a ∷ b ∷ c ∷ d ∷ l) moved = tt
 
 pub tetrahedron_has_point : TetrahedronHasPoint
 tetrahedron_has_point = by_four (λ corners. (p : Rational) × (is_inside p corners ≡ true)) (λ a b c d solid.

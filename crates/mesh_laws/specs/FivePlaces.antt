@@ -7,7 +7,7 @@ use Rattle.ma_geom.specs.Rational.{Rational}
 use Rattle.ma_geom.specs.Volume.{vol6}
 use Rattle.ma_cells.specs.Faces.{faces_of}
 use Rattle.ma_cover.specs.Inside.{is_inside}
-use Rattle.mesh_laws.specs.Sides.{IsOffPlane}
+use Rattle.mesh_laws.specs.Points.{IsOffPlane}
 
 -- 1 where a tetrahedron of positive volume has the point within it, -1 where one of negative volume has, else 0
 abbrev pub enclosed : Rational → Coordinates → Coordinates → Coordinates → Coordinates → ℤ

@@ -8,15 +8,20 @@ use Rattle.ma_cells.specs.Tetrahedron.{Tetrahedron, is_flat}
 use Rattle.ma_cover.specs.Inside.{are_alike, is_inside}
 use Rattle.ma_cover.specs.OnFaces.{IsOffFacesOf}
 
--- that q lies strictly on a side of the triangle a b c, unless a, b and c are on one line; and on the side of p, if p lies strictly on one
-pub record IsMovedOff (p q : Rational) (a b c : Coordinates) : Type 0 where
-  pub kept : side a b c p ≢ pos 0 → are_alike (side a b c p) (side a b c q) ≡ true
-  pub off : collinear a b c ≡ false → side a b c q ≢ pos 0
+-- that p is off the plane of a triangle, which is given by its three corners, unless these are on one line
+abbrev pub IsOffPlane : Rational → List Coordinates → Type 0
+IsOffPlane p (a ∷ b ∷ c ∷ []) = collinear a b c ≡ false → side a b c p ≢ pos 0
+IsOffPlane p _ = Unit {0}
 
--- the same of a triangle that is given by its three corners
-abbrev pub IsMovedOffPlane : Rational → Rational → List Coordinates → Type 0
-IsMovedOffPlane p q (a ∷ b ∷ c ∷ []) = IsMovedOff p q a b c
-IsMovedOffPlane p q _ = Unit {0}
+-- that q lies on the side of a triangle on which p lies, if p lies strictly on one
+abbrev pub KeepsSide : Rational → Rational → List Coordinates → Type 0
+KeepsSide p q (a ∷ b ∷ c ∷ []) = side a b c p ≢ pos 0 → are_alike (side a b c p) (side a b c q) ≡ true
+KeepsSide p q _ = Unit {0}
+
+-- that q is where p can be moved, off the plane of a triangle
+pub record IsMovedOffPlane (p q : Rational) (triangle : List Coordinates) : Type 0 where
+  pub off : IsOffPlane q triangle
+  pub kept : KeepsSide p q triangle
 
 -- a point can be moved off the planes of any triangles, and stays on each strict side of them that it has
 abbrev pub PointsMoveOffPlanes : Type 0

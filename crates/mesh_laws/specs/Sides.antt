@@ -1,10 +1,10 @@
 -- Tetrahedra that share a face.
-use Rattle.std.specs.Prelude.{ℕ, pos, ◌≡◌, ◌≢◌, ◌≤◌, true, false, List, [], ◌∷◌}
+use Rattle.std.specs.Prelude.{ℕ, ◌≡◌, ◌≤◌, true, false, List, [], ◌∷◌}
 use Rattle.std.specs.Cmp.Lexicographic.{slice_cmp}
 use Rattle.std.specs.List.{AllByRecursion, AllPairs, count_by}
 use Rattle.ma_geom.specs.Coordinates.{Coordinates, place_cmp}
-use Rattle.ma_geom.specs.Lines.{collinear, is_flat}
-use Rattle.ma_geom.specs.Rational.{Rational, side}
+use Rattle.ma_geom.specs.Lines.{is_flat}
+use Rattle.ma_geom.specs.Rational.{Rational}
 use Rattle.ma_geom.specs.Volume.{vol6}
 use Rattle.ma_cells.specs.Ascending.{has}
 use Rattle.ma_cells.specs.Faces.{faces_of}
@@ -13,12 +13,7 @@ use Rattle.ma_cover.specs.Cover.{whole_cover}
 use Rattle.ma_cover.specs.Inside.{are_alike, is_inside}
 use Rattle.ma_cover.specs.OnFaces.{IsOffFaces}
 use Rattle.ma_cover.specs.Sound.{LieOnBothSides}
-use Rattle.mesh_laws.specs.Points.{AreNotFlat}
-
--- that a point is off the plane of a triangle, unless its corners are on one line
-abbrev pub IsOffPlane : Rational → List Coordinates → Type 0
-IsOffPlane p (a ∷ b ∷ c ∷ []) = collinear a b c ≡ false → side a b c p ≢ pos 0
-IsOffPlane p _ = Unit {0}
+use Rattle.mesh_laws.specs.Points.{AreNotFlat, IsOffPlane}
 
 -- that a point is within two tetrahedra, which are given by their corners, and off the planes of some triangles
 pub record IsCommon (p : Rational) (s t : List Coordinates) (triangles : List (List Coordinates)) : Type 0 where

@@ -1,7 +1,7 @@
 //! Each law is the contract of a function that does nothing.
 ghost use Rattle.mesh_laws.specs.Covers.{CoverStaysAtMost, RegionsGiveWholeCover, SameCoverIsHandedOn, SameCoverStaysAtMost};
 ghost use Rattle.mesh_laws.specs.FivePlaces.{FivePlacesCancel};
-ghost use Rattle.mesh_laws.specs.Parity.{OddFacesDecideParity};
+ghost use Rattle.mesh_laws.specs.Parity.{HoldersAreListings, SameOddlyPassOddly};
 ghost use Rattle.mesh_laws.specs.Points.{OnlyPointsAreInside, PointsMoveOffFaces, PointsMoveOffPlanes};
 ghost use Rattle.mesh_laws.specs.Sides.{NoFaceHasThree, OnceLieOnBothSides, OneSideHasCommonPoint, TetrahedronHasPoint};
 ghost use Rattle.mesh_laws.specs.Sounds.{ConformingOddAreMarked, OddMarkedIsSound, SameCoverStaysSound, SoundAsSets, SoundCoversOnce, SoundFaceHasTwo, SoundIsListedOnce};
@@ -51,9 +51,14 @@ pub fn no_face_has_three()
     ensures { NoFaceHasThree }
 {}
 
-/// What is listed twice doesn't matter to whether an odd number of faces pass a test.
-pub fn odd_faces_decide_parity()
-    ensures { OddFacesDecideParity }
+/// Lists with the same faces an odd number of times pass a test oddly alike: what is listed twice falls away.
+pub fn same_oddly_pass_oddly()
+    ensures { SameOddlyPassOddly }
+{}
+
+/// A face is listed among those of a region as often as tetrahedra have it.
+pub fn holders_are_listings()
+    ensures { HoldersAreListings }
 {}
 
 /// The covers of all regions give the whole cover.
