@@ -11,3 +11,4 @@ pub mod Sounds
 pub mod FiveSigns
 pub mod FivePlaces
 pub mod Listings
+pub mod Examples
