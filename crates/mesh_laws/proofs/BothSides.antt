@@ -25,7 +25,7 @@ use Rattle.ma_cover.specs.Sound.{LieOnBothSides}
 use Rattle.ma_cover.proofs.Exchanges.{inside_in_any_order}
 use Rattle.mesh_laws.specs.Sides.{NoFaceHasThree, OnceLieOnBothSides}
 use Rattle.mesh_laws.proofs.Lists.{count-cons, count-none}
-use Rattle.mesh_laws.proofs.MovedOff.{NoneIsFlat, corners_of, cover_stays_at_most}
+use Rattle.mesh_laws.proofs.MovedOff.{NoneIsFlatBy, corners_of, cover_stays_at_most}
 use Rattle.mesh_laws.proofs.OneSide.{one_side}
 use Rattle.mesh_laws.proofs.Weights.{by_four}
 
@@ -110,7 +110,7 @@ module _ {X : Type 0} (corners : X → List Coordinates) where
   abbrev pub BothSides : X → X → Type 0
   BothSides x y = LieOnBothSides (corners x) (corners y)
 
-  pub once_pairs : (xs : List X) → NoneIsFlat corners xs → ((p : Rational) → count_by (λ x. is_inside p (corners x)) xs ≤ 1) → Pairs BothSides xs
+  pub once_pairs : (xs : List X) → NoneIsFlatBy corners xs → ((p : Rational) → count_by (λ x. is_inside p (corners x)) xs ≤ 1) → Pairs BothSides xs
   once_pairs [] solid once = tt
   once_pairs (x ∷ xs) solid once = (each xs solid.1 once, once_pairs xs solid.1 (λ p. fewer (inside p x) _ _ (count-cons (inside p) x xs) (once p)))
     where
@@ -130,7 +130,7 @@ module _ {X : Type 0} (corners : X → List Coordinates) where
       without a true k n m l e f g h = omega arith
       without a false k n m l e f g h = omega arith
 
-      each : (ys : List X) → NoneIsFlat corners ys → ((p : Rational) → count_by (λ x. is_inside p (corners x)) (x ∷ ys) ≤ 1) → AllByRecursion (BothSides x) ys
+      each : (ys : List X) → NoneIsFlatBy corners ys → ((p : Rational) → count_by (λ x. is_inside p (corners x)) (x ∷ ys) ≤ 1) → AllByRecursion (BothSides x) ys
       each [] solid_ys once_ys = tt
       each (y ∷ ys) solid_ys once_ys = (
         lie_on_both_sides (corners x) (corners y) solid.0 solid_ys.0 (λ p first second. twice _ _ _ _ _ first second (count-cons (inside p) x (y ∷ ys)) (count-cons (inside p) y ys) (once_ys p)),

@@ -1,35 +1,31 @@
 -- Premises of the laws that are met: a tetrahedron, its halves, a point off all planes.
-use Rattle.std.proofs.Common.{◌≡◌, ◌≢◌, ℕ, zero, suc, ◌+◌, ◌≤◌, Bool, true, false, cond, not, ◌&&◌, List, [], ◌∷◌, refl, sym, ap, ap₂, ◌∙◌, arith}
-use Rattle.std.specs.Prelude.{ℤ, pos, negsuc, map, neg_ℤ}
+use Rattle.std.proofs.Common.{◌≡◌, ◌≢◌, ℕ, suc, Bool, true, false, ◌&&◌, List, [], ◌∷◌, refl, sym, ap, ap₂, ◌∙◌, arith}
+use Rattle.std.specs.Prelude.{ℤ, pos, negsuc, map}
 use Rattle.std.specs.Cmp.Lexicographic.{slice_cmp}
-use Rattle.std.specs.List.{AllByRecursion, count_by, flat_map}
+use Rattle.std.specs.List.{AllByRecursion}
 use Rattle.std.specs.Ordering.{int_eq}
-use Rattle.std.proofs.lemmas.Bool.{and_parts, false≢true}
+use Rattle.std.proofs.lemmas.Bool.{false≢true}
 use Rattle.std.proofs.lemmas.Int.{ints}
 use Rattle.std.proofs.lemmas.List.Sums.{count_by-le-length}
 use Rattle.ma_geom.specs.Coordinates.{Coordinates, place_cmp}
-use Rattle.ma_geom.specs.Lines.{normal}
-use Rattle.ma_geom.specs.Rational.{IsMiddle, IsPoint, Rational, side}
+use Rattle.ma_geom.specs.Rational.{Rational, side}
 use Rattle.ma_geom.specs.Volume.{vol6}
 use Rattle.ma_cells.specs.Ascending.{has}
-use Rattle.ma_cells.specs.Bisection.{bisect_tet}
 use Rattle.ma_cells.specs.Cells.{CellMark}
 use Rattle.ma_cells.specs.Faces.{faces_of}
 use Rattle.ma_cells.specs.Incidence.{is_marked}
 use Rattle.ma_cells.specs.Tetrahedron.{Tetrahedron, are_tetrahedra}
 use Rattle.ma_cells.specs.declared.cell.Cell.TheVariants.{Tri}
-use Rattle.ma_cover.specs.Cover.{whole_cover}
 use Rattle.ma_cover.specs.Inside.{are_alike, is_inside}
-use Rattle.ma_cover.specs.Sound.{IsSound, holders}
+use Rattle.ma_cover.specs.Sound.{IsSound}
 use Rattle.ma_cover.proofs.Covers.{bisection_keeps_cover}
 use Rattle.mesh_laws.specs.Covers.{CoverTheSame}
 use Rattle.mesh_laws.specs.FivePlaces.{enclosed}
-use Rattle.mesh_laws.specs.Parity.{AreSameOddly, is_odd}
-use Rattle.mesh_laws.specs.Points.{AreNotFlat, IsOffPlane}
+use Rattle.mesh_laws.specs.Parity.{AreSameOddly}
+use Rattle.mesh_laws.specs.Points.{NoneIsFlat, IsOffPlane}
 use Rattle.mesh_laws.specs.Sides.{whole_holders}
-use Rattle.mesh_laws.specs.Sounds.{AreOnCells, OddAreMarked}
+use Rattle.mesh_laws.specs.Sounds.{OddAreMarked}
 use Rattle.mesh_laws.proofs.BothSides.{has_one, same}
-use Rattle.mesh_laws.proofs.Lists.{count-cons}
 use Rattle.mesh_laws.proofs.Oddly.{odd_is, odd_of, odd_some, xor}
 use Rattle.mesh_laws.proofs.Sounds.{odd_marked_is_sound, same_cover_stays_sound, tetrahedra_not_flat}
 
@@ -79,10 +75,10 @@ halves_tetrahedra : are_tetrahedra halves ≡ true
 unfolding vol6
 halves_tetrahedra = refl
 
-pub whole_not_flat : AreNotFlat whole
+pub whole_not_flat : NoneIsFlat whole
 whole_not_flat = tetrahedra_not_flat whole whole_tetrahedra
 
-pub halves_not_flat : AreNotFlat halves
+pub halves_not_flat : NoneIsFlat halves
 halves_not_flat = tetrahedra_not_flat halves halves_tetrahedra
 
 -- ---- odd faces of tetrahedra of one region are marked if each of their faces is, or is had by an even number

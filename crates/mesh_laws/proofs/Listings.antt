@@ -1,8 +1,7 @@
 -- How often a face is listed among those of tetrahedra.
-use Rattle.std.proofs.Common.{◌≡◌, ◌≢◌, ℕ, ◌+◌, Bool, true, false, cond, not, ◌&&◌, ◌||◌, List, [], ◌∷◌, get_or, refl, sym, ap, ap₂, subst, ◌∙◌, arith}
-use Rattle.std.specs.Prelude.{ℤ, pos}
+use Rattle.std.proofs.Common.{◌≡◌, ◌≢◌, ℕ, ◌+◌, Bool, true, false, cond, not, ◌&&◌, ◌||◌, List, [], ◌∷◌, get_or, refl, sym, ap, ap₂, subst, ◌∙◌}
+use Rattle.std.specs.Prelude.{pos}
 use Rattle.std.specs.Cmp.Lexicographic.{slice_cmp}
-use Rattle.std.specs.List.{count_by, flat_map}
 use Rattle.std.specs.Ordering.{int_eq}
 use Rattle.std.proofs.lemmas.Bool.{false_from_ne_true}
 use Rattle.std.proofs.lemmas.List.Sums.{sum_by-append}
@@ -11,15 +10,15 @@ use Rattle.ma_geom.specs.Volume.{vol6}
 use Rattle.ma_geom.proofs.Identities.{vol6_same_ab, vol6_same_bc, vol6_same_cd}
 use Rattle.ma_cells.specs.Ascending.{are_distinct, has}
 use Rattle.ma_cells.specs.Faces.{faces_of}
-use Rattle.ma_cells.specs.Tetrahedron.{Tetrahedron, is_flat}
+use Rattle.ma_cells.specs.Tetrahedron.{is_flat}
 use Rattle.ma_cells.proofs.Permutations.{alone}
-use Rattle.mesh_laws.specs.Parity.{HoldersAreListings, region_faces, times}
+use Rattle.mesh_laws.specs.Parity.{HoldersAreListings, region_faces, listings}
 use Rattle.mesh_laws.proofs.BothSides.{same, same_is}
 use Rattle.mesh_laws.proofs.Lists.{count-cons}
 use Rattle.mesh_laws.proofs.Weights.{by_four}
 
 -- ---- what is distinct is listed once or not at all
-pub times_distinct : (face : List Coordinates) (faces : List (List Coordinates)) → are_distinct (slice_cmp place_cmp) faces ≡ true → times face faces ≡ cond (has (slice_cmp place_cmp) face faces) 1 0
+pub times_distinct : (face : List Coordinates) (faces : List (List Coordinates)) → are_distinct (slice_cmp place_cmp) faces ≡ true → listings face faces ≡ cond (has (slice_cmp place_cmp) face faces) 1 0
 times_distinct face [] distinct = refl
 times_distinct face (f ∷ faces) distinct =
     let first = alone (has (slice_cmp place_cmp) f faces) (are_distinct (slice_cmp place_cmp) faces) distinct in
@@ -64,6 +63,6 @@ holders_are_listings (tet ∷ tets) solid phys elem face =
     ∙ ap₂ (λ (m n : ℕ). m + n) (one (int_eq tet.phys phys && int_eq tet.elem elem)) (holders_are_listings tets solid.1 phys elem face)
     ∙ sym (sum_by-append (λ f. cond (same face f) 1 0) (cond (int_eq tet.phys phys && int_eq tet.elem elem) (faces_of tet.corners) []) (region_faces phys elem tets))
   where
-    one : (b : Bool) → cond (b && has (slice_cmp place_cmp) face (faces_of tet.corners)) 1 0 ≡ times face (cond b (faces_of tet.corners) [])
+    one : (b : Bool) → cond (b && has (slice_cmp place_cmp) face (faces_of tet.corners)) 1 0 ≡ listings face (cond b (faces_of tet.corners) [])
     one true = sym (times_distinct face (faces_of tet.corners) (faces_distinct tet.corners solid.0))
     one false = refl

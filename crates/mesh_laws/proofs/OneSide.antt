@@ -1,5 +1,5 @@
 -- Two tetrahedra that share a face and lie on one side of it have a point in common.
-use Rattle.std.proofs.Common.{◌≡◌, ◌≢◌, ℕ, zero, suc, ◌<◌, ◌⊎◌, ⊎_elim, Bool, true, false, ◌&&◌, List, [], ◌∷◌, ◌++◌, refl, sym, ap, subst, ◌∙◌, arith}
+use Rattle.std.proofs.Common.{◌≡◌, ◌≢◌, ℕ, zero, suc, ◌<◌, ◌⊎◌, ⊎_elim, Bool, true, false, ◌&&◌, List, [], ◌∷◌, refl, sym, ap, subst, ◌∙◌, arith}
 use Rattle.std.specs.Prelude.{ℤ, pos, negsuc, ◌+ℤ◌, ◌*ℤ◌, ◌<ℤ◌, ◌≤ℤ◌, unsigned_abs}
 use Rattle.std.specs.Ordering.{int_eq}
 use Rattle.std.proofs.lemmas.Int.{ints}
@@ -10,15 +10,13 @@ use Rattle.ma_geom.specs.Volume.{dot, minus, vol6}
 use Rattle.ma_geom.proofs.Identities.{dot_self, dot_squared}
 use Rattle.ma_geom.proofs.Reified.{Triple, Quadruple, place, places, side', cross', minus', dot', vol6'}
 use Rattle.ma_geom.proofs.Ring.{con, ◌⊕◌, ◌⊗◌, ring}
-use Rattle.ma_cells.specs.Faces.{faces_of}
 use Rattle.ma_cells.proofs.Passing.{all_weaker}
 use Rattle.ma_cover.specs.Inside.{are_alike, is_inside}
 use Rattle.ma_cover.proofs.OffFaces.{inside_is_off_faces}
 use Rattle.mesh_laws.specs.Points.{IsMovedOffPlane, IsOffPlane}
 use Rattle.mesh_laws.specs.Sides.{OneSideHasCommonPoint, TetrahedronHasPoint}
-use Rattle.mesh_laws.proofs.Lists.{all_split}
-use Rattle.mesh_laws.proofs.Moved.{alike_multiple, bound, points_move_off_planes}
-use Rattle.mesh_laws.proofs.MovedOff.{moved_off}
+use Rattle.mesh_laws.proofs.Moved.{alike_multiple, bound}
+use Rattle.mesh_laws.proofs.MovedOff.{move_off}
 use Rattle.mesh_laws.proofs.Weights.{alike_itself, alike_some, by_four, inside_is_point, some_a, some_b, some_c}
 
 -- ---- a point close to the middle of the triangle u v w, off its plane if s isn't zero
@@ -174,16 +172,13 @@ one_side_has_common_point u v w d e triangles alike =
     let t = u ∷ v ∷ w ∷ e ∷ [] in
     let common = one_side u v w d e alike in
     let p = common.p in
-    let near = points_move_off_planes p (inside_is_point p s common.first) (faces_of s ++ (faces_of t ++ triangles)) in
-    let q = near.0 in
-    let parts = all_split (IsMovedOffPlane p q) (faces_of s) (faces_of t ++ triangles) near.2 in
-    let rest = all_split (IsMovedOffPlane p q) (faces_of t) triangles parts.1 in
-    let some = alike_some (vol6 u v w d) (vol6 u v w e) alike in (
-      q,
+    let some = alike_some (vol6 u v w d) (vol6 u v w e) alike in
+    let near = move_off (λ c. c) p (inside_is_point p s common.first) (s ∷ t ∷ []) triangles (not_flat (vol6 u v w d) some.0, (not_flat (vol6 u v w e) some.1, tt)) in (
+      near.0,
       record {
-        first = (moved_off p q s (not_flat (vol6 u v w d) some.0) parts.0).inside (inside_is_off_faces p s common.first) ∙ common.first;
-        second = (moved_off p q t (not_flat (vol6 u v w e) some.1) rest.0).inside (inside_is_off_faces p t common.second) ∙ common.second;
-        off = all_weaker (IsMovedOffPlane p q) (IsOffPlane q) (λ _ moved. moved.off) triangles rest.1;
+        first = near.2.0.inside (inside_is_off_faces p s common.first) ∙ common.first;
+        second = near.2.1.0.inside (inside_is_off_faces p t common.second) ∙ common.second;
+        off = all_weaker (IsMovedOffPlane p near.0) (IsOffPlane near.0) (λ _ moved. moved.off) triangles near.3;
       },
     )
   where

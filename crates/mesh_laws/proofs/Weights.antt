@@ -177,17 +177,17 @@ inside_is_point p (a ∷ b ∷ c ∷ d ∷ e ∷ l) h = absurd (false≢true h)
 
 -- ---- a point that keeps the sides of another
 -- that a side keeps its sign, unless it is none
-abbrev pub IsKept : ℤ → ℤ → Type 0
-IsKept s t = s ≢ pos 0 → are_alike s t ≡ true
+abbrev pub KeepsSign : ℤ → ℤ → Type 0
+KeepsSign s t = s ≢ pos 0 → are_alike s t ≡ true
 
-after : (v s t : ℤ) → IsKept s t → are_alike v s ≡ true → are_alike v t ≡ true
+after : (v s t : ℤ) → KeepsSign s t → are_alike v s ≡ true → are_alike v t ≡ true
 after v s t kept h = by v s t h (kept (alike_some v s h).1)
   where
     by : (v s t : ℤ) → are_alike v s ≡ true → are_alike s t ≡ true → are_alike v t ≡ true
     by v s t h k = grind (arith, ints)
 
 -- it was strictly there, or on the plane
-before : (v s t : ℤ) → IsKept s t → are_alike v t ≡ true → (s ≡ pos 0) ⊎ (are_alike v s ≡ true)
+before : (v s t : ℤ) → KeepsSign s t → are_alike v t ≡ true → (s ≡ pos 0) ⊎ (are_alike v s ≡ true)
 before v s t kept h = elim (is_or_not s) [ inl e ↦ inl e | inr some ↦ inr (by v s t h (kept some)) ]
   where
     by : (v s t : ℤ) → are_alike v t ≡ true → are_alike s t ≡ true → are_alike v s ≡ true
@@ -209,7 +209,7 @@ or_absurd (inr q) h = q
 
 -- a point that is off the closed faces of a tetrahedron is within it just if one that keeps its sides is
 pub inside_kept : (a b c d : Coordinates) (p q : Rational) → vol6 a b c d ≢ pos 0 → IsOffFacesOf p (a ∷ b ∷ c ∷ d ∷ [])
-    → IsKept (side b c d p) (side b c d q) → IsKept (side a c d p) (side a c d q) → IsKept (side a b d p) (side a b d q) → IsKept (side a b c p) (side a b c q)
+    → KeepsSign (side b c d p) (side b c d q) → KeepsSign (side a c d p) (side a c d q) → KeepsSign (side a b d p) (side a b d q) → KeepsSign (side a b c p) (side a b c q)
     → is_inside q (a ∷ b ∷ c ∷ d ∷ []) ≡ is_inside p (a ∷ b ∷ c ∷ d ∷ [])
 inside_kept a b c d p q solid off kept_a kept_b kept_c kept_d = iff _ _ back forth
   where

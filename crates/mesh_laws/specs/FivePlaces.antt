@@ -13,7 +13,7 @@ use Rattle.mesh_laws.specs.Points.{IsOffPlane}
 abbrev pub enclosed : Rational → Coordinates → Coordinates → Coordinates → Coordinates → ℤ
 enclosed p a b c d = if is_inside p (a ∷ b ∷ c ∷ d ∷ []) then int_signum (vol6 a b c d) else pos 0
 
--- of five places each four enclose a point so that the numbers, taken with one sign and the other in turn, cancel: at each point off the planes of the ten triangles.
+-- the five tetrahedra of five places, taken with one sign and the other in turn, enclose a point as often the one way as the other, off the planes of the ten triangles.
 -- So a tetrahedron encloses what those from any further place over its faces do
 abbrev pub FivePlacesCancel : Type 0
 FivePlacesCancel = (p : Rational) (a b c d e : Coordinates) → AllByRecursion (IsOffPlane p) (faces_of (a ∷ b ∷ c ∷ d ∷ e ∷ []))

@@ -7,19 +7,19 @@ use Rattle.ma_geom.specs.Coordinates.{Coordinates, place_cmp}
 use Rattle.ma_cells.specs.Faces.{faces_of}
 use Rattle.ma_cells.specs.Tetrahedron.{Tetrahedron}
 use Rattle.ma_cover.specs.Sound.{holders}
-use Rattle.mesh_laws.specs.Points.{AreNotFlat}
+use Rattle.mesh_laws.specs.Points.{NoneIsFlat}
 
 abbrev pub is_odd : ℕ → Bool
 is_odd zero = false
 is_odd (suc n) = not (is_odd n)
 
 -- how often a face is listed
-abbrev pub times : List Coordinates → List (List Coordinates) → ℕ
-times face faces = count_by (eq_by_cmp (slice_cmp place_cmp) face) faces
+abbrev pub listings : List Coordinates → List (List Coordinates) → ℕ
+listings face faces = count_by (eq_by_cmp (slice_cmp place_cmp) face) faces
 
 -- that two lists have the same faces an odd number of times
 abbrev pub AreSameOddly : List (List Coordinates) → List (List Coordinates) → Type 0
-AreSameOddly faces others = (face : List Coordinates) → is_odd (times face faces) ≡ is_odd (times face others)
+AreSameOddly faces others = (face : List Coordinates) → is_odd (listings face faces) ≡ is_odd (listings face others)
 
 -- then a test passes an odd number of times on both or on neither
 abbrev pub SameOddlyPassOddly : Type 0
@@ -32,5 +32,5 @@ region_faces phys elem tets = flat_map (λ tet. if int_eq tet.phys phys && int_e
 
 -- a face is listed as often as tetrahedra of the region have it
 abbrev pub HoldersAreListings : Type 0
-HoldersAreListings = (tets : List Tetrahedron) → AreNotFlat tets → (phys elem : ℤ) (face : List Coordinates)
-    → holders phys elem face tets ≡ times face (region_faces phys elem tets)
+HoldersAreListings = (tets : List Tetrahedron) → NoneIsFlat tets → (phys elem : ℤ) (face : List Coordinates)
+    → holders phys elem face tets ≡ listings face (region_faces phys elem tets)

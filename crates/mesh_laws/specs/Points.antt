@@ -28,17 +28,18 @@ abbrev pub PointsMoveOffPlanes : Type 0
 PointsMoveOffPlanes = (p : Rational) → IsPoint p → (triangles : List (List Coordinates)) → (q : Rational) × IsPoint q × AllByRecursion (IsMovedOffPlane p q) triangles
 
 -- that no tetrahedron of a list is flat
-abbrev pub AreNotFlat : List Tetrahedron → Type 0
-AreNotFlat tets = AllByRecursion (λ tet. is_flat tet.corners ≡ false) tets
+abbrev pub NoneIsFlat : List Tetrahedron → Type 0
+NoneIsFlat tets = AllByRecursion (λ tet. is_flat tet.corners ≡ false) tets
 
 -- that q is on no closed face of the tetrahedron with these corners, and within it just if p is, provided that p is on no closed face either
 pub record IsMovedOffFaces (p q : Rational) (corners : List Coordinates) : Type 0 where
   pub off : IsOffFacesOf q corners
   pub inside : IsOffFacesOf p corners → is_inside q corners ≡ is_inside p corners
 
--- a point can be moved off the closed faces of any tetrahedra, and stays within each or without, but for those on whose faces it was
+-- a point can be moved off the closed faces of any tetrahedra and off the planes of any triangles. It stays within each tetrahedron or without, but for those on whose faces it was
 abbrev pub PointsMoveOffFaces : Type 0
-PointsMoveOffFaces = (p : Rational) → IsPoint p → (tets : List Tetrahedron) → AreNotFlat tets → (q : Rational) × IsPoint q × AllByRecursion (λ tet. IsMovedOffFaces p q tet.corners) tets
+PointsMoveOffFaces = (p : Rational) → IsPoint p → (tets : List Tetrahedron) (triangles : List (List Coordinates)) → NoneIsFlat tets
+    → (q : Rational) × IsPoint q × AllByRecursion (λ tet. IsMovedOffFaces p q tet.corners) tets × AllByRecursion (IsMovedOffPlane p q) triangles
 
 -- only what stands for a point is within a tetrahedron
 abbrev pub OnlyPointsAreInside : Type 0
