@@ -1,12 +1,9 @@
 -- Where no point is within two tetrahedra, those that share a face lie on both sides of it, and so no face has three.
-use Rattle.std.proofs.Common.{◌≡◌, ◌≢◌, ℕ, suc, ◌+◌, ◌≤◌, ◌⊎◌, ⊎_elim, Bool, true, false, cond, ◌||◌, List, [], ◌∷◌, refl, sym, ap, subst, ◌∙◌, arith}
+use Rattle.std.proofs.Common.{◌≡◌, ◌≢◌, ℕ, suc, ◌+◌, ◌≤◌, ◌⊎◌, ⊎_elim, Bool, true, false, cond, List, [], ◌∷◌, refl, ◌∙◌, arith}
 use Rattle.std.specs.Prelude.{ℤ, pos, neg_ℤ}
-use Rattle.std.specs.Cmp.{Equal-is, tied_itself}
-use Rattle.std.specs.Cmp.Lexicographic.{lists_total, slice_cmp}
-use Rattle.std.specs.FinMap.{slice_cmp-IsAntisymmetric}
+use Rattle.std.specs.Cmp.Lexicographic.{slice_cmp}
 use Rattle.std.specs.List.{AllByRecursion, AllPairs, count_by}
 use Rattle.std.specs.List.Sorted.{IsPermutation}
-use Rattle.std.specs.Ordering.{eq_by_cmp, is_eq}
 use Rattle.std.proofs.lemmas.Bool.{false_from_ne_true, false≢true}
 use Rattle.std.proofs.lemmas.Int.{ints}
 use Rattle.std.proofs.lemmas.List.Kept.{AllPairs-cons}
@@ -14,7 +11,6 @@ use Rattle.std.proofs.lemmas.List.Sorted.{IsPermutation-append_comm, IsPermutati
 use Rattle.ma_geom.specs.Coordinates.{Coordinates, place_cmp}
 use Rattle.ma_geom.specs.Rational.{Rational}
 use Rattle.ma_geom.specs.Volume.{vol6}
-use Rattle.ma_geom.proofs.PlaceOrder.{place_cmp-IsAntisymmetric, place_cmp_total}
 use Rattle.ma_cells.specs.Ascending.{has}
 use Rattle.ma_cells.specs.Faces.{faces_of}
 use Rattle.ma_cells.specs.Tetrahedron.{is_flat}
@@ -24,29 +20,11 @@ use Rattle.ma_cover.specs.Inside.{are_alike, is_inside}
 use Rattle.ma_cover.specs.Sound.{LieOnBothSides}
 use Rattle.ma_cover.proofs.Exchanges.{inside_in_any_order}
 use Rattle.mesh_laws.specs.Sides.{NoFaceHasThree, OnceLieOnBothSides}
+use Rattle.mesh_laws.proofs.Listings.{has_one}
 use Rattle.mesh_laws.proofs.Lists.{count-cons, count-none}
 use Rattle.mesh_laws.proofs.MovedOff.{NoneIsFlatBy, corners_of, cover_stays_at_most}
 use Rattle.mesh_laws.proofs.OneSide.{one_side}
 use Rattle.mesh_laws.proofs.Weights.{by_four}
-
--- ---- lists of places that tie are equal
-abbrev pub same : List Coordinates → List Coordinates → Bool
-same = eq_by_cmp (slice_cmp place_cmp)
-
-pub same_is : (f g : List Coordinates) → same f g ≡ true → f ≡ g
-same_is f g t = slice_cmp-IsAntisymmetric place_cmp-IsAntisymmetric f g ((Equal-is (slice_cmp place_cmp f g)).0 t)
-
-pub same_itself : (f : List Coordinates) → same f f ≡ true
-same_itself f = ap is_eq (tied_itself (lists_total place_cmp_total) f)
-
--- what holds of each item holds of one that is there
-pub has_one : (P : List Coordinates → Type 0) (face : List Coordinates) (fs : List (List Coordinates)) → AllByRecursion P fs → has (slice_cmp place_cmp) face fs ≡ true → P face
-has_one P face [] all h = absurd (false≢true h)
-has_one P face (f ∷ fs) all h =
-    elim (same face f) as (λ b. same face f ≡ b → (b || has (slice_cmp place_cmp) face fs) ≡ true → P face) [
-      | true ↦ λ e _. subst P (sym (same_is face f e)) all.0
-      | false ↦ λ _ k. has_one P face fs all.1 k
-    ] refl h
 
 -- ---- each two items
 -- R of each item and each later one

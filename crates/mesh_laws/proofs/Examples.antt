@@ -25,7 +25,7 @@ use Rattle.mesh_laws.specs.Parity.{AreSameOddly}
 use Rattle.mesh_laws.specs.Points.{NoneIsFlat, IsOffPlane}
 use Rattle.mesh_laws.specs.Sides.{whole_holders}
 use Rattle.mesh_laws.specs.Sounds.{OddAreMarked}
-use Rattle.mesh_laws.proofs.BothSides.{has_one, same}
+use Rattle.mesh_laws.proofs.Listings.{has_one, same}
 use Rattle.mesh_laws.proofs.Oddly.{odd_is, odd_of, odd_some, xor}
 use Rattle.mesh_laws.proofs.Sounds.{odd_marked_is_sound, same_cover_stays_sound, tetrahedra_not_flat}
 

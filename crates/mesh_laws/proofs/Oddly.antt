@@ -4,7 +4,7 @@ use Rattle.std.specs.Prelude.{not}
 use Rattle.std.specs.List.{AllByRecursion, count_by, flat_map}
 use Rattle.std.proofs.lemmas.Bool.{and_parts, false≢true}
 use Rattle.mesh_laws.specs.Parity.{SameOddlyPassOddly, is_odd}
-use Rattle.mesh_laws.proofs.BothSides.{same, same_is, same_itself}
+use Rattle.mesh_laws.proofs.Listings.{same, same_is, same_itself}
 use Rattle.mesh_laws.proofs.Keyed.{at, total, total-alike, total-append, total-each, total-none}
 use Rattle.mesh_laws.proofs.Lists.{all_items, count-cons}
 

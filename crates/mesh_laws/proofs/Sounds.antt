@@ -31,7 +31,8 @@ use Rattle.mesh_laws.specs.Parity.{is_odd}
 use Rattle.mesh_laws.specs.Points.{NoneIsFlat}
 use Rattle.mesh_laws.specs.Sides.{whole_holders}
 use Rattle.mesh_laws.specs.Sounds.{ConformingOddAreMarked, OddMarkedIsSound, SameCoverStaysSound, SoundAsSets, SoundCoversOnce, ConformingFaceHasTwo, ConformingIsListedOnce}
-use Rattle.mesh_laws.proofs.BothSides.{BothSides, Pairs, has_one, no_face_has_three, once_lie_on_both_sides, once_pairs, pairs_from}
+use Rattle.mesh_laws.proofs.BothSides.{BothSides, Pairs, no_face_has_three, once_lie_on_both_sides, once_pairs, pairs_from}
+use Rattle.mesh_laws.proofs.Listings.{has_one}
 use Rattle.mesh_laws.proofs.Lists.{all_items, count-more}
 use Rattle.mesh_laws.proofs.MovedOff.{NoneIsFlatBy, corners_of as corners_of_tet, cover_stays_at_most}
 use Rattle.mesh_laws.proofs.Regions.{same_cover_stays_at_most}
