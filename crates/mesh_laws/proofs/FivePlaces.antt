@@ -1,9 +1,10 @@
 -- What the five tetrahedra of five places enclose cancels.
-use Rattle.std.proofs.Common.{◌≡◌, ◌≢◌, ℕ, ⊎_elim, zero, suc, Bool, true, false, cond, not, ◌&&◌, ◌||◌, min, List, [], ◌∷◌, refl, ap, ◌∙◌, arith}
-use Rattle.std.specs.Prelude.{ℤ, pos, negsuc, ◌+ℤ◌, ◌-ℤ◌, ◌*ℤ◌, neg_ℤ, ◌<ℤ◌, ◌≤ℤ◌, int_lt, map}
+use Rattle.std.proofs.Common.{◌≡◌, ◌≢◌, ℕ, ⊎_elim, zero, suc, Bool, true, false, cond, not, ◌&&◌, ◌||◌, min, [], ◌∷◌, refl, ap, ◌∙◌, arith}
+use Rattle.std.specs.Prelude.{ℤ, pos, negsuc, ◌+ℤ◌, ◌-ℤ◌, ◌*ℤ◌, neg_ℤ, ◌<ℤ◌, int_lt, map}
 use Rattle.std.specs.Int.{int_signum}
-use Rattle.std.specs.List.{AllByRecursion, list_all, list_any}
-use Rattle.std.proofs.lemmas.Bool.{and_from, both_ways, false_from_ne_true, or_left, or_right}
+use Rattle.std.specs.List.{AllByRecursion, list_any}
+use Rattle.std.specs.Ordering.{int_eq}
+use Rattle.std.proofs.lemmas.Bool.{and_from, false_from_ne_true, or_left, or_right}
 use Rattle.std.proofs.lemmas.Int.{ints}
 use Rattle.ma_geom.specs.Coordinates.{Coordinates}
 use Rattle.ma_geom.specs.Rational.{IsPoint, Rational, side}
@@ -20,7 +21,6 @@ use Rattle.ma_cover.specs.Inside.{are_alike, is_beside, is_inside}
 use Rattle.mesh_laws.specs.FivePlaces.{FivePlacesCancel, enclosed}
 use Rattle.mesh_laws.specs.Points.{IsOffPlane}
 use Rattle.mesh_laws.proofs.FiveSigns.{alike, can_cancel, is_minus, is_plus, is_strict_or_flat, is_zero, number, product, signs_cancel, turned, turns, within, within_is}
-use Rattle.mesh_laws.proofs.Keyed.{total}
 use Rattle.mesh_laws.proofs.MovedOff.{bent, point_or_not}
 use Rattle.mesh_laws.proofs.Weights.{inside_is_point, is_or_not, some_a, some_b, some_c, turned_a}
 
@@ -79,67 +79,29 @@ signum_is (pos (suc n)) = ap pos (by n)
 signum_is (negsuc n) = refl
 
 -- ---- numbers that sum to zero
-abbrev sum : List ℤ → ℤ
-sum xs = total (pos 0) (λ (s t : ℤ). s +ℤ t) (λ x. x) xs
+none_is : (x : ℤ) → int_eq x (pos 0) ≡ is_zero (sign_of x)
+none_is (pos zero) = grind (arith, ints)
+none_is (pos (suc n)) = grind (arith, ints)
+none_is (negsuc n) = grind (arith, ints)
 
-low : (xs : List ℤ) → list_any is_plus (map sign_of xs) ≡ false → (sum xs ≤ℤ pos 0) × (pos 0 ≤ℤ sum xs → list_all is_zero (map sign_of xs) ≡ true)
-low [] h = (omega (arith, ints), λ _. refl)
-low (pos zero ∷ xs) h = let rest = low xs h in (by (sum xs) rest.0, λ k. rest.1 (less (sum xs) k))
+three_cancel : (x y z : ℤ) → (x +ℤ y) +ℤ z ≡ pos 0 → can_cancel (map sign_of (x ∷ y ∷ z ∷ [])) ≡ true
+three_cancel x y z e = rw (← above_zero x, ← above_zero y, ← above_zero z, ← below_zero x, ← below_zero y, ← below_zero z, ← none_is x, ← none_is y, ← none_is z) (by x y z e)
   where
-    by : (t : ℤ) → t ≤ℤ pos 0 → (pos 0 +ℤ t) ≤ℤ pos 0
-    by t h = omega (arith, ints)
+    by : (x y z : ℤ) → (x +ℤ y) +ℤ z ≡ pos 0 → (((int_lt (pos 0) x || (int_lt (pos 0) y || (int_lt (pos 0) z || false))) && (int_lt x (pos 0) || (int_lt y (pos 0) || (int_lt z (pos 0) || false)))) || (int_eq x (pos 0) && (int_eq y (pos 0) && (int_eq z (pos 0) && true)))) ≡ true
+    by x y z e = grind (arith, ints)
 
-    less : (t : ℤ) → pos 0 ≤ℤ (pos 0 +ℤ t) → pos 0 ≤ℤ t
-    less t h = omega (arith, ints)
-low (pos (suc n) ∷ xs) h = absurd (both_ways true h refl)
-low (negsuc n ∷ xs) h = let rest = low xs h in (by n (sum xs) rest.0, λ k. absurd (no n (sum xs) rest.0 k))
+four_cancel : (x y z w : ℤ) → ((x +ℤ y) +ℤ z) +ℤ w ≡ pos 0 → can_cancel (map sign_of (x ∷ y ∷ z ∷ w ∷ [])) ≡ true
+four_cancel x y z w e =
+    rw (← above_zero x, ← above_zero y, ← above_zero z, ← above_zero w, ← below_zero x, ← below_zero y, ← below_zero z, ← below_zero w, ← none_is x, ← none_is y, ← none_is z, ← none_is w) (by x y z w e)
   where
-    by : (n : ℕ) (t : ℤ) → t ≤ℤ pos 0 → (negsuc n +ℤ t) ≤ℤ pos 0
-    by n t h = omega (arith, ints)
-
-    no : (n : ℕ) (t : ℤ) → t ≤ℤ pos 0 → pos 0 ≤ℤ (negsuc n +ℤ t) → ⊥
-    no n t h k = omega (arith, ints)
-
-high : (xs : List ℤ) → list_any is_minus (map sign_of xs) ≡ false → (pos 0 ≤ℤ sum xs) × (sum xs ≤ℤ pos 0 → list_all is_zero (map sign_of xs) ≡ true)
-high [] h = (omega (arith, ints), λ _. refl)
-high (pos zero ∷ xs) h = let rest = high xs h in (by (sum xs) rest.0, λ k. rest.1 (less (sum xs) k))
-  where
-    by : (t : ℤ) → pos 0 ≤ℤ t → pos 0 ≤ℤ (pos 0 +ℤ t)
-    by t h = omega (arith, ints)
-
-    less : (t : ℤ) → (pos 0 +ℤ t) ≤ℤ pos 0 → t ≤ℤ pos 0
-    less t h = omega (arith, ints)
-high (pos (suc n) ∷ xs) h = let rest = high xs h in (by n (sum xs) rest.0, λ k. absurd (no n (sum xs) rest.0 k))
-  where
-    by : (n : ℕ) (t : ℤ) → pos 0 ≤ℤ t → pos 0 ≤ℤ (pos (suc n) +ℤ t)
-    by n t h = omega (arith, ints)
-
-    no : (n : ℕ) (t : ℤ) → pos 0 ≤ℤ t → (pos (suc n) +ℤ t) ≤ℤ pos 0 → ⊥
-    no n t h k = omega (arith, ints)
-high (negsuc n ∷ xs) h = absurd (both_ways true h refl)
-
-cancels : (xs : List ℤ) → sum xs ≡ pos 0 → can_cancel (map sign_of xs) ≡ true
-cancels xs e = by (list_any is_plus (map sign_of xs)) (list_any is_minus (map sign_of xs)) (λ none. (low xs none).1 (at_least (sum xs) e)) (λ none. (high xs none).1 (at_most (sum xs) e))
-  where
-    at_least : (t : ℤ) → t ≡ pos 0 → pos 0 ≤ℤ t
-    at_least t e = omega (arith, ints)
-
-    at_most : (t : ℤ) → t ≡ pos 0 → t ≤ℤ pos 0
-    at_most t e = omega (arith, ints)
-
-    by : (s t : Bool) {z : Bool} → (s ≡ false → z ≡ true) → (t ≡ false → z ≡ true) → ((s && t) || z) ≡ true
-    by true true f g = refl
-    by true false f g = g refl
-    by false t f g = f refl
+    by : (x y z w : ℤ) → ((x +ℤ y) +ℤ z) +ℤ w ≡ pos 0
+        → (((int_lt (pos 0) x || (int_lt (pos 0) y || (int_lt (pos 0) z || (int_lt (pos 0) w || false)))) && (int_lt x (pos 0) || (int_lt y (pos 0) || (int_lt z (pos 0) || (int_lt w (pos 0) || false))))) || (int_eq x (pos 0) && (int_eq y (pos 0) && (int_eq z (pos 0) && (int_eq w (pos 0) && true))))) ≡ true
+    by x y z w e = grind (arith, ints)
 
 -- ---- the relations of Grassmann and Plücker
 relation : (q r s t u v : ℤ) → ((q *ℤ r) -ℤ (s *ℤ t)) +ℤ (u *ℤ v) ≡ pos 0
     → can_cancel (product (sign_of q) (sign_of r) ∷ turned (product (sign_of s) (sign_of t)) ∷ product (sign_of u) (sign_of v) ∷ []) ≡ true
-relation q r s t u v e =
-    rw (← sign_product q r, ← sign_product s t, ← sign_turned (s *ℤ t), ← sign_product u v) (cancels ((q *ℤ r) ∷ neg_ℤ (s *ℤ t) ∷ (u *ℤ v) ∷ []) (by (q *ℤ r) (s *ℤ t) (u *ℤ v) e))
-  where
-    by : (x y z : ℤ) → (x -ℤ y) +ℤ z ≡ pos 0 → x +ℤ (neg_ℤ y +ℤ (z +ℤ pos 0)) ≡ pos 0
-    by x y z e = omega (arith, ints)
+relation q r s t u v e = rw (← sign_product q r, ← sign_product s t, ← sign_turned (s *ℤ t), ← sign_product u v) (three_cancel (q *ℤ r) (neg_ℤ (s *ℤ t)) (u *ℤ v) e)
 
 abbrev A : Triple
 A = place 0
@@ -181,10 +143,10 @@ module _ (a b c d e : Coordinates) (p : Rational) where
   at_e = ring (point_and_places p (a ∷ b ∷ c ∷ d ∷ e ∷ [])) (((side' A B E P ⊗ side' C D E P) ⊖ (side' A C E P ⊗ side' B D E P)) ⊕ (side' A D E P ⊗ side' B C E P)) (con (pos 0)) tt
 
 -- ---- one tetrahedron
-flat_so : (q r s t : ℤ) → t +ℤ (neg_ℤ s +ℤ (r +ℤ (neg_ℤ q +ℤ pos 0))) ≡ pos 0 → is_strict_or_flat (sign_of q) (sign_of r) (sign_of s) (sign_of t) ≡ true
+flat_so : (q r s t : ℤ) → ((t -ℤ s) +ℤ r) -ℤ q ≡ pos 0 → is_strict_or_flat (sign_of q) (sign_of r) (sign_of s) (sign_of t) ≡ true
 flat_so q r s t e =
     or_right (not (list_any is_zero (sign_of q ∷ sign_of r ∷ sign_of s ∷ sign_of t ∷ []))) (can_cancel (sign_of t ∷ turned (sign_of s) ∷ sign_of r ∷ turned (sign_of q) ∷ []))
-    (rw (← sign_turned s, ← sign_turned q) (cancels (t ∷ neg_ℤ s ∷ r ∷ neg_ℤ q ∷ []) e))
+    (rw (← sign_turned s, ← sign_turned q) (four_cancel t (neg_ℤ s) r (neg_ℤ q) e))
 
 strict_so : (q r s t : ℤ) → q ≢ pos 0 → r ≢ pos 0 → s ≢ pos 0 → t ≢ pos 0 → is_strict_or_flat (sign_of q) (sign_of r) (sign_of s) (sign_of t) ≡ true
 strict_so q r s t e f g h =
@@ -194,15 +156,15 @@ strict_so q r s t e f g h =
 module _ (p : Rational) (a b c d : Coordinates) where
   strict_or_flat : AllByRecursion (IsOffPlane p) (faces_of (a ∷ b ∷ c ∷ d ∷ [])) → is_strict_or_flat (sign_of (side b c d p)) (sign_of (side a c d p)) (sign_of (side a b d p)) (sign_of (side a b c p)) ≡ true
   strict_or_flat off =
-      ⊎_elim (λ flat. flat_so (side b c d p) (side a c d p) (side a b d p) (side a b c p) (flat_sum (side a b c p) (side a b d p) (side a c d p) (side b c d p) p.w (vol6 a b c d) (sides_sum a b c d p) flat))
+      ⊎_elim (λ flat. flat_so (side b c d p) (side a c d p) (side a b d p) (side a b c p) (sides_sum a b c d p ∙ nothing p.w (vol6 a b c d) flat))
       (λ solid. strict_so (side b c d p) (side a c d p) (side a b d p) (side a b c p) (off.1.1.1.0 (bent b c d a (some_a a b c d solid))) (off.1.1.0 (bent a c d b (some_b a b c d solid))) (off.1.0 (bent a b d c (some_c a b c d solid))) (off.0 (bent a b c d solid)))
       (is_or_not (vol6 a b c d))
     where
-      flat_sum : (s t u v w n : ℤ) → ((s -ℤ t) +ℤ u) -ℤ v ≡ w *ℤ n → n ≡ pos 0 → s +ℤ (neg_ℤ t +ℤ (u +ℤ (neg_ℤ v +ℤ pos 0))) ≡ pos 0
-      flat_sum s t u v w n e f = by s t u v w (rw f at e)
+      nothing : (w n : ℤ) → n ≡ pos 0 → w *ℤ n ≡ pos 0
+      nothing w n e = rw e (by w)
         where
-          by : (s t u v w : ℤ) → ((s -ℤ t) +ℤ u) -ℤ v ≡ w *ℤ pos 0 → s +ℤ (neg_ℤ t +ℤ (u +ℤ (neg_ℤ v +ℤ pos 0))) ≡ pos 0
-          by s t u v w e = omega (arith, ints)
+          by : (w : ℤ) → w *ℤ pos 0 ≡ pos 0
+          by w = omega (arith, ints)
 
   turns_so : IsPoint p → turns (sign_of (vol6 a b c d)) (sign_of (side b c d p)) (sign_of (side a c d p)) (sign_of (side a b d p)) (sign_of (side a b c p)) ≡ true
   turns_so is_point =

@@ -2,6 +2,7 @@
 use Rattle.std.proofs.Common.{◌≡◌, ◌≢◌, ℕ, zero, suc, ◌<◌, ◌⊎◌, ⊎_elim, Bool, true, false, ◌&&◌, List, [], ◌∷◌, refl, sym, ap, subst, ◌∙◌, arith}
 use Rattle.std.specs.Prelude.{ℤ, pos, negsuc, ◌+ℤ◌, ◌*ℤ◌, ◌<ℤ◌, ◌≤ℤ◌, unsigned_abs}
 use Rattle.std.specs.Ordering.{int_eq}
+use Rattle.std.proofs.Math.IntN.{*ℤ_comm}
 use Rattle.std.proofs.lemmas.Int.{ints}
 use Rattle.ma_geom.specs.Coordinates.{Coordinates}
 use Rattle.ma_geom.specs.Lines.{normal}
@@ -100,48 +101,37 @@ long_normal u v w d solid =
     positive_or_none : (x : ℤ) → pos 0 ≤ℤ x → (x ≡ pos 0) ⊎ (pos 0 <ℤ x)
     positive_or_none x h = grind (arith, ints)
 
--- ---- 1 or -1, as a number is
-abbrev unit : ℤ → ℤ
-unit (negsuc n) = negsuc 0
-unit (pos n) = pos 1
+-- ---- numbers of one sign
+alike_times : (s m : ℤ) → s ≢ pos 0 → pos 0 <ℤ m → are_alike s (s *ℤ m) ≡ true
+alike_times s (pos zero) some h = absurd (omega (arith, ints))
+alike_times s (negsuc k) some h = absurd (omega (arith, ints))
+alike_times s (pos (suc k)) some h = subst (λ t. are_alike s t ≡ true) (by (pos (suc k) *ℤ s) ∙ *ℤ_comm (pos (suc k)) s) (alike_multiple (suc k) s (pos 0) (omega (arith, ints)) some)
+  where
+    by : (t : ℤ) → t +ℤ pos 0 ≡ t
+    by t = omega (arith, ints)
 
-unit_alike : (x y : ℤ) → are_alike x y ≡ true → unit y ≡ unit x
-unit_alike (pos n) (pos m) h = refl
-unit_alike (negsuc n) (negsuc m) h = refl
-unit_alike (pos n) (negsuc m) h = absurd (no n m h)
-  where
-    no : (n m : ℕ) → are_alike (pos n) (negsuc m) ≡ true → ⊥
-    no n m h = grind (arith, ints)
-unit_alike (negsuc n) (pos m) h = absurd (no n m h)
-  where
-    no : (n m : ℕ) → are_alike (negsuc n) (pos m) ≡ true → ⊥
-    no n m h = grind (arith, ints)
+alike_alike : (x y z : ℤ) → are_alike x y ≡ true → are_alike y z ≡ true → are_alike x z ≡ true
+alike_alike x y z h k = grind (arith, ints)
 
-alike_units : (x m : ℤ) → x ≢ pos 0 → pos 0 <ℤ m → are_alike x (unit x *ℤ m) ≡ true
-alike_units (pos zero) m h g = absurd (h refl)
-alike_units (pos (suc n)) m h g = by m g
-  where
-    by : (m : ℤ) → pos 0 <ℤ m → are_alike (pos (suc n)) (pos 1 *ℤ m) ≡ true
-    by m g = grind (arith, ints)
-alike_units (negsuc n) m h g = by m g
-  where
-    by : (m : ℤ) → pos 0 <ℤ m → are_alike (negsuc n) (negsuc 0 *ℤ m) ≡ true
-    by m g = grind (arith, ints)
+alike_turned : (x y : ℤ) → are_alike x y ≡ true → are_alike y x ≡ true
+alike_turned x y h = grind (arith, ints)
 
 -- ---- the common point
-within : (k : ℕ) (u v w d : Coordinates) (s : ℤ) → vol6 u v w d ≢ pos 0 → s ≡ unit (vol6 u v w d)
+within : (k : ℕ) (u v w d : Coordinates) (s : ℤ) → are_alike (vol6 u v w d) s ≡ true
     → unsigned_abs (gap s u v w v w d) < k → unsigned_abs (gap s u v w u w d) < k → unsigned_abs (gap s u v w u v d) < k
     → is_inside (beyond (pos k) s u v w) (u ∷ v ∷ w ∷ d ∷ []) ≡ true
-within k u v w d s solid is small_u small_v small_w =
+within k u v w d s alike small_u small_v small_w =
     all (are_alike (vol6 v w d u) (side v w d p)) (are_alike (vol6 u w d v) (side u w d p)) (are_alike (vol6 u v d w) (side u v d p)) (are_alike (vol6 u v w d) (side u v w p))
     (kept (vol6 v w d u) (gap s u v w v w d) (side v w d p) (some_a u v w d solid) small_u (at_u (pos k) s u v w d))
     (kept (vol6 u w d v) (gap s u v w u w d) (side u w d p) (some_b u v w d solid) small_v (at_v (pos k) s u v w d))
     (kept (vol6 u v d w) (gap s u v w u v d) (side u v d p) (some_c u v w d solid) small_w (at_w (pos k) s u v w d))
-    (ap (are_alike (vol6 u v w d)) (at_face (pos k) s u v w d ∙ ap (λ t. t *ℤ dot (normal u v w) (normal u v w)) is)
-    ∙ alike_units (vol6 u v w d) (dot (normal u v w) (normal u v w)) solid (long_normal u v w d solid))
+    (ap (are_alike (vol6 u v w d)) (at_face (pos k) s u v w d) ∙ alike_alike (vol6 u v w d) s (s *ℤ dot (normal u v w) (normal u v w)) alike (alike_times s (dot (normal u v w) (normal u v w)) (alike_some (vol6 u v w d) s alike).1 (long_normal u v w d solid)))
   where
     p : Rational
     p = beyond (pos k) s u v w
+
+    solid : vol6 u v w d ≢ pos 0
+    solid = (alike_some (vol6 u v w d) s alike).0
 
     kept : (x e t : ℤ) → x ≢ pos 0 → unsigned_abs e < k → t ≡ (pos k *ℤ x) +ℤ e → are_alike x t ≡ true
     kept x e t some small is = subst (λ r. are_alike x r ≡ true) (sym is) (alike_multiple k x e small some)
@@ -156,13 +146,12 @@ pub record HaveCommonPoint (s t : List Coordinates) : Type 0 where
 
 pub one_side : (u v w d e : Coordinates) → are_alike (vol6 u v w d) (vol6 u v w e) ≡ true → HaveCommonPoint (u ∷ v ∷ w ∷ d ∷ []) (u ∷ v ∷ w ∷ e ∷ [])
 one_side u v w d e alike =
-    let s = unit (vol6 u v w d) in
-    let some = alike_some (vol6 u v w d) (vol6 u v w e) alike in
+    let s = vol6 u v w d in
     let k = bound unsigned_abs (gap s u v w v w d ∷ gap s u v w u w d ∷ gap s u v w u v d ∷ gap s u v w v w e ∷ gap s u v w u w e ∷ gap s u v w u v e ∷ []) in
     record {
       p = beyond (pos k.0) s u v w;
-      first = within k.0 u v w d s some.0 refl k.1.0 k.1.1.0 k.1.1.1.0;
-      second = within k.0 u v w e s some.1 (sym (unit_alike (vol6 u v w d) (vol6 u v w e) alike)) k.1.1.1.1.0 k.1.1.1.1.1.0 k.1.1.1.1.1.1.0;
+      first = within k.0 u v w d s (alike_itself s (alike_some s (vol6 u v w e) alike).0) k.1.0 k.1.1.0 k.1.1.1.0;
+      second = within k.0 u v w e s (alike_turned s (vol6 u v w e) alike) k.1.1.1.1.0 k.1.1.1.1.1.0 k.1.1.1.1.1.1.0;
     }
 
 -- it can be moved off any planes

@@ -1,6 +1,6 @@
 -- A point as a mean of the corners of a tetrahedron: within it all four weights are positive, and on a face one is zero and none negative.
-use Rattle.std.proofs.Common.{◌≡◌, ◌≢◌, ◌⊎◌, inl, inr, ℕ, zero, suc, Bool, true, false, ◌&&◌, List, [], ◌∷◌, refl, sym, ap, ap₂, ◌∙◌, arith}
-use Rattle.std.specs.Prelude.{ℤ, pos, negsuc, ◌+ℤ◌, ◌-ℤ◌, ◌*ℤ◌, neg_ℤ, ◌<ℤ◌, ◌≤ℤ◌}
+use Rattle.std.proofs.Common.{◌≡◌, ◌≢◌, ◌⊎◌, inl, inr, ⊎_elim, subst, Bool, true, false, ◌&&◌, List, [], ◌∷◌, refl, sym, ap, ap₂, ◌∙◌, arith}
+use Rattle.std.specs.Prelude.{ℤ, pos, ◌+ℤ◌, ◌-ℤ◌, ◌*ℤ◌, neg_ℤ, ◌<ℤ◌, ◌≤ℤ◌}
 use Rattle.std.specs.Ordering.{int_eq}
 use Rattle.std.proofs.Math.IntN.{*ℤ_comm}
 use Rattle.std.proofs.lemmas.Bool.{false≢true}
@@ -9,7 +9,7 @@ use Rattle.ma_geom.specs.Coordinates.{Coordinates}
 use Rattle.ma_geom.specs.Rational.{IsPoint, Rational, side}
 use Rattle.ma_geom.specs.Volume.{vol6}
 use Rattle.ma_geom.proofs.Identities.{cramer_x, cramer_y, cramer_z, flat_exchange_cd, side_exchange_bc, side_turn, sides_sum, vol6_exchange_bc, vol6_exchange_cd, vol6_turn_abc, vol6_turn_bcd}
-use Rattle.ma_geom.proofs.Integers.{positive_factor}
+use Rattle.ma_geom.proofs.Integers.{positive-*ℤ, positive_factor}
 use Rattle.ma_geom.proofs.Ring.{var, neg, ◌⊕◌, ◌⊖◌, ◌⊗◌, entry, ring}
 use Rattle.ma_cells.specs.Tetrahedron.{is_flat}
 use Rattle.ma_cover.specs.Inside.{are_alike, is_beside, is_inside}
@@ -29,25 +29,14 @@ by_four P four (a ∷ b ∷ c ∷ []) h = absurd (false≢true (sym h))
 by_four P four (a ∷ b ∷ c ∷ d ∷ e ∷ l) h = absurd (false≢true (sym h))
 
 -- ---- numbers of one sign
-pub alike_product : (v s : ℤ) → are_alike v s ≡ true → pos 0 <ℤ (v *ℤ s)
-alike_product (pos (suc m)) (pos (suc n)) h = omega (arith, ints)
-alike_product (negsuc m) (negsuc n) h = omega (arith, ints)
-alike_product (pos zero) s h = absurd (no s h)
-  where
-    no : (s : ℤ) → are_alike (pos 0) s ≡ true → ⊥
-    no s h = grind (arith, ints)
-alike_product (pos (suc m)) (pos zero) h = absurd (no m h)
-  where
-    no : (m : ℕ) → are_alike (pos (suc m)) (pos 0) ≡ true → ⊥
-    no m h = grind (arith, ints)
-alike_product (pos (suc m)) (negsuc n) h = absurd (no m n h)
-  where
-    no : (m n : ℕ) → are_alike (pos (suc m)) (negsuc n) ≡ true → ⊥
-    no m n h = grind (arith, ints)
-alike_product (negsuc m) (pos n) h = absurd (no m n h)
-  where
-    no : (m n : ℕ) → are_alike (negsuc m) (pos n) ≡ true → ⊥
-    no m n h = grind (arith, ints)
+alike_cases : (v s : ℤ) → are_alike v s ≡ true → ((pos 0 <ℤ v) × (pos 0 <ℤ s)) ⊎ ((pos 0 <ℤ neg_ℤ v) × (pos 0 <ℤ neg_ℤ s))
+alike_cases v s h = grind (arith, ints)
+
+alike_product : (v s : ℤ) → are_alike v s ≡ true → pos 0 <ℤ (v *ℤ s)
+alike_product v s h =
+    ⊎_elim (λ both. positive-*ℤ v s both.0 both.1)
+    (λ both. subst (λ t. pos 0 <ℤ t) (ring (entry (v ∷ s ∷ [])) (neg (var 0) ⊗ neg (var 1)) (var 0 ⊗ var 1) tt) (positive-*ℤ (neg_ℤ v) (neg_ℤ s) both.0 both.1))
+    (alike_cases v s h)
 
 pub alike_itself : (s : ℤ) → s ≢ pos 0 → are_alike s s ≡ true
 alike_itself s h = grind (arith, ints)
