@@ -1,5 +1,5 @@
 -- Where each region covers a point equally often, so do all together, and so the cover stays at most.
-use Rattle.std.proofs.Common.{◌≡◌, ℕ, ◌+◌, ◌≤◌, Bool, true, false, cond, ◌&&◌, List, [], ◌∷◌, ◌++◌, refl, sym, ap, ap₂, ◌∙◌, arith}
+use Rattle.std.proofs.Common.{◌≡◌, ℕ, ◌+◌, ◌≤◌, Bool, true, false, cond, ◌&&◌, List, [], ◌∷◌, refl, sym, ap, ap₂, ◌∙◌, arith}
 use Rattle.std.specs.Prelude.{ℤ}
 use Rattle.std.specs.List.{count_by}
 use Rattle.std.specs.Ordering.{int_eq}
@@ -10,7 +10,7 @@ use Rattle.ma_cells.specs.Tetrahedron.{Tetrahedron}
 use Rattle.ma_cover.specs.Cover.{cover}
 use Rattle.ma_cover.specs.Inside.{is_inside}
 use Rattle.mesh_laws.specs.Covers.{RegionsGiveWholeCover, SameCoverStaysAtMost}
-use Rattle.mesh_laws.proofs.Keyed.{at, total, total-alike, total-each}
+use Rattle.mesh_laws.proofs.Keyed.{at, total, total-by_key, total-each}
 use Rattle.mesh_laws.proofs.Lists.{all_items, count-cons}
 use Rattle.mesh_laws.proofs.MovedOff.{cover_stays_at_most}
 
@@ -79,8 +79,7 @@ module _ (p : Rational) where
 pub regions_give_whole_cover : RegionsGiveWholeCover
 regions_give_whole_cover p tets others each =
     count_is (λ tet. is_inside p tet.corners) others
-    ∙ total-alike 0 (λ (m n : ℕ). m + n) left right regroup region_of same same_is same_itself others tets (weight p)
-    (all_items (λ tet. sum (at 0 region_of same (region_of tet) (weight p)) others ≡ sum (at 0 region_of same (region_of tet) (weight p)) tets) (λ tet. of_region p (region_of tet) others ∙ each tet.phys tet.elem ∙ sym (of_region p (region_of tet) tets)) (others ++ tets))
+    ∙ total-by_key 0 (λ (m n : ℕ). m + n) left right regroup region_of same same_is same_itself others tets (weight p) (λ r. of_region p r others ∙ each r.phys r.elem ∙ sym (of_region p r tets))
     ∙ sym (count_is (λ tet. is_inside p tet.corners) tets)
 
 pub same_cover_stays_at_most : SameCoverStaysAtMost
