@@ -1,0 +1,14 @@
+pub mod Lists
+pub mod Weights
+pub mod Moved
+pub mod MovedOff
+pub mod OneSide
+pub mod BothSides
+pub mod Keyed
+pub mod Oddly
+pub mod Regions
+pub mod Sounds
+pub mod FiveSigns
+pub mod FivePlaces
+pub mod Listings
+pub mod Examples

@@ -1,0 +1,6 @@
+pub mod Points
+pub mod Covers
+pub mod Sides
+pub mod Parity
+pub mod Sounds
+pub mod FivePlaces
