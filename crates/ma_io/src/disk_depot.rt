@@ -46,13 +46,7 @@ impl<R: Files> DiskDepot<R> {
 }
 
 impl<R: Files> Depot for DiskDepot<R> {
-    ghost files = { λ _. None };
-
-    ghost fetch_faults = { λ d. d.fetch_faults };
-
-    ghost store_faults = { λ d. d.store_faults };
-
-    ghost denied = { λ d. d.denied };
+    ghost held = { λ d. record { files = None; fetch_faults = d.fetch_faults; store_faults = d.store_faults; denied = d.denied } };
 
     fn fetch(&mut self, name: &str, into: &mut Vec<u8>, most: usize) -> Result<(), FetchFault>
         ensures err { OnErr result (into.new.items ≡ into.old.items) }

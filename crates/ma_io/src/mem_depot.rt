@@ -86,13 +86,7 @@ impl MemDepot {
 }
 
 impl Depot for MemDepot {
-    ghost files = { λ d. Some d.files };
-
-    ghost fetch_faults = { λ d. d.fetch_faults };
-
-    ghost store_faults = { λ d. d.store_faults };
-
-    ghost denied = { λ d. d.denied };
+    ghost held = { λ d. record { files = Some d.files; fetch_faults = d.fetch_faults; store_faults = d.store_faults; denied = d.denied } };
 
     fn fetch(&mut self, name: &str, into: &mut Vec<u8>, most: usize) -> Result<(), FetchFault>
         ensures answer { FetchAnswers (fetch_due self.old name.now most) into.new.items result }

@@ -51,9 +51,7 @@ impl MemSink {
 }
 
 impl Sink for MemSink {
-    ghost written = { λ s. Some s.written };
-
-    ghost faults = { λ s. s.faults };
+    ghost received = { λ s. record { written = Some s.written; faults = s.faults } };
 
     fn put(&mut self, bytes: &[u8]) -> Result<(), SinkFault>
         ensures answer { PutAnswers (is_put_to_fail self.old) result }

@@ -34,9 +34,7 @@ impl<R: Print> StdSink<R> {
 }
 
 impl<R: Print> Sink for StdSink<R> {
-    ghost written = { λ _. None };
-
-    ghost faults = { λ faults. faults };
+    ghost received = { λ faults. record { written = None; faults = faults } };
 
     fn put(&mut self, bytes: &[u8]) -> Result<(), SinkFault>
         ensures after { self.new ≡ faults_after_put self.old result }

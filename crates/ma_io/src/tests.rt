@@ -11,8 +11,8 @@ use std::{env, fs, process};
 /// Copies a file from one name to another, and says so. Its proof sees a depot and a sink only through
 /// their traits.
 fn copy<D: Depot, S: Sink>(alloc: Global, depot: &mut D, out: &mut S, from: &str, to: &str) -> bool
-    ensures copied { (old : Files) → D.files depot.old ≡ Some old → IsTrue result → (bytes : List ℕ) × (map.get old from.now ≡ Some bytes) × (D.files depot.new ≡ Some (map.insert old to.now bytes)) }
-    ensures said { (old : List ℕ) → S.written out.old ≡ Some old → IsTrue result → S.written out.new ≡ Some (old ++ codes "copied") }
+    ensures copied { (old : Files) → (D.held depot.old).files ≡ Some old → IsTrue result → (bytes : List ℕ) × (map.get old from.now ≡ Some bytes) × ((D.held depot.new).files ≡ Some (map.insert old to.now bytes)) }
+    ensures said { (old : List ℕ) → (S.received out.old).written ≡ Some old → IsTrue result → (S.received out.new).written ≡ Some (old ++ codes "copied") }
 {
     let mut bytes = Vec::new(alloc);
     depot.fetch(from, &mut bytes, 8).is_ok()
