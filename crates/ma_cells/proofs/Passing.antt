@@ -1,8 +1,10 @@
 -- What holds of all items of a list, as a test and item by item.
-use Rattle.std.proofs.Common.{◌≡◌, Bool, true, false, ◌||◌, List, [], ◌∷◌, filter, refl, ap}
+use Rattle.std.proofs.Common.{◌≡◌, ℕ, zero, suc, ◌<◌, Bool, true, false, ◌||◌, List, [], ◌∷◌, filter, length, get_or, refl, ap, arith}
 use Rattle.std.specs.Prelude.{map, cond}
-use Rattle.std.specs.List.{AllByRecursion, flat_map, list_all, list_any}
+use Rattle.std.specs.List.{All, AllByRecursion, flat_map, list_all, list_any}
+use Rattle.std.specs.List.Sorted.{IsPermutation}
 use Rattle.std.proofs.lemmas.Bool.{and_parts, or_right}
+use Rattle.std.proofs.lemmas.List.Sorted.{All-permutation}
 use Rattle.ma_cells.proofs.Choices.{all-append}
 
 module _ {X : Type 0} (test : X → Bool) where
@@ -42,6 +44,19 @@ module _ {X Y : Type 0} (P : X → Type 0) (Q : Y → Type 0) where
 pub all_anyway : {X : Type 0} (xs : List X) → AllByRecursion (λ (x : X). Unit {0}) xs
 all_anyway [] = tt
 all_anyway (x ∷ xs) = (tt, all_anyway xs)
+
+-- ---- by index
+pub all_from_index : {X : Type 0} (P : X → Type 0) (xs : List X) → All P xs → AllByRecursion P xs
+all_from_index P [] h = tt
+all_from_index P (x ∷ xs) h = (h zero x (omega arith), all_from_index P xs (λ k d w. h (suc k) d (omega arith)))
+
+pub all_by_index : {X : Type 0} (P : X → Type 0) (xs : List X) → AllByRecursion P xs → All P xs
+all_by_index P [] h k d below = absurd (omega arith)
+all_by_index P (x ∷ xs) h zero d below = h.0
+all_by_index P (x ∷ xs) h (suc k) d below = all_by_index P xs h.1 k d (omega arith)
+
+pub all-permutation : {X : Type 0} (P : X → Type 0) (xs ys : List X) → IsPermutation xs ys → AllByRecursion P xs → AllByRecursion P ys
+all-permutation P xs ys moved h = all_from_index P ys (All-permutation P xs ys moved (all_by_index P xs h))
 
 -- ---- what some item of a list passes
 pub any-weaker : {X : Type 0} (f g : X → Bool) → ((x : X) → f x ≡ true → g x ≡ true) → (xs : List X) → list_any f xs ≡ true → list_any g xs ≡ true

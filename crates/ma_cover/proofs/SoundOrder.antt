@@ -11,8 +11,10 @@ use Rattle.ma_geom.specs.Volume.{vol6}
 use Rattle.ma_cells.specs.Cells.{CellMark, corners_of}
 use Rattle.ma_cells.specs.Faces.{holds_all}
 use Rattle.ma_cells.specs.Tetrahedron.{Tetrahedron}
+use Rattle.ma_cells.proofs.Passing.{all-permutation}
 use Rattle.ma_cover.specs.Inside.{are_alike}
 use Rattle.ma_cover.specs.Laws.{SoundInAnyOrder}
+use Rattle.ma_cover.specs.OnFaces.{IsOffFacesOf}
 use Rattle.ma_cover.specs.Sound.{IsConforming, IsPairedOrMarked, LieOnBothSides}
 
 -- ---- items in another order
@@ -87,5 +89,5 @@ pub sound_in_any_order : SoundInAnyOrder
 sound_in_any_order tets others marks moved h =
     record {
       conforming = conforming_in_any_order tets others marks moved h.conforming;
-      once = λ p. subst (λ n. n ≤ 1) (sym (sum_by-IsPermutation _ tets others moved)) (h.once p);
+      once = λ p off. subst (λ n. n ≤ 1) (sym (sum_by-IsPermutation _ tets others moved)) (h.once p (all-permutation (λ tet. IsOffFacesOf p tet.corners) others tets (IsPermutation-sym tets others moved) off));
     }

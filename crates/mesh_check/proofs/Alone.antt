@@ -10,6 +10,7 @@ use Rattle.std.proofs.lemmas.Bool.{false≢true}
 use Rattle.std.proofs.lemmas.Bool.Decides.{nat_tests}
 use Rattle.std.proofs.lemmas.List.Recursion.{is_count_by}
 use Rattle.std.proofs.lemmas.List.Sorted.{list_any-IsPermutation, ranks_by, sorted_far, sum_by-IsPermutation}
+use Rattle.ma_cells.proofs.Passing.{all_from_index}
 use Rattle.mesh_check.specs.Lone.{differs, first_of, lone, lone_after}
 
 -- how often an item stands in a list
@@ -28,10 +29,6 @@ NotBelow R x (Some y) = is_lt (R x y) ≡ false
 abbrev Ordered : {K : Type 0} → (K → K → Ordering) → List K → Type 0
 Ordered R [] = Unit {0}
 Ordered R (x ∷ xs) = AllByRecursion (λ z. is_lt (R z x) ≡ false) xs × Ordered R xs
-
-all_from_index : {K : Type 0} (P : K → Type 0) (xs : List K) → ((k : ℕ) (d : K) → k < length xs → P (get_or xs k d)) → AllByRecursion P xs
-all_from_index P [] h = tt
-all_from_index P (x ∷ xs) h = (h zero x (omega arith), all_from_index P xs (λ k d w. h (suc k) d (omega arith)))
 
 once : (c t : ℕ) → eqb (c + (1 + t)) 1 ≡ (eqb c 0 && eqb t 0)
 once c t =

@@ -19,17 +19,17 @@ use Rattle.std.proofs.lemmas.List.Folds.{list_any-append}
 use Rattle.ma_geom.specs.Volume.{vol6}
 use Rattle.ma_geom.proofs.PlaceOrder.{both_tie, place_cmp-IsAntisymmetric, place_cmp_total}
 use Rattle.ma_cells.specs.Ascending.{are_ascending, are_distinct, ascending_of, has}
-use Rattle.ma_cells.specs.Cells.{CellMark, mark_cmp, mark_on}
+use Rattle.ma_cells.specs.Cells.{CellMark, corners_of, mark_cmp, mark_on}
 use Rattle.ma_cells.specs.Tetrahedron.{Tetrahedron, are_corners}
-use Rattle.ma_cells.proofs.CellOrders.{mark_cmp_total}
+use Rattle.ma_cells.proofs.CellOrders.{mark_cmp-IsAntisymmetric, mark_cmp_total}
 use Rattle.ma_cells.proofs.Cornered.{cell_of-sorted}
 use Rattle.ma_cover.specs.Inside.{are_alike}
 use Rattle.overlap_check.specs.Overlap.{are_separated}
 use Rattle.overlap_check.proofs.BothSides.{separated_lie_on_both_sides}
 use Rattle.mesh_check.specs.Lone.{lone}
-use Rattle.ma_cells.specs.Incidence.{is_on}
-use Rattle.mesh_check.specs.Marks.{outer_marks, side_cmp, sides_of}
-use Rattle.ma_cover.specs.Sound.{LieOnBothSides, outer_mark, IsPairedOrMarked, holders}
+use Rattle.ma_cells.specs.Incidence.{is_marked, is_on}
+use Rattle.mesh_check.specs.Marks.{outer_mark, outer_marks, side_cmp, sides_of}
+use Rattle.ma_cover.specs.Sound.{LieOnBothSides, IsPairedOrMarked, holders}
 use Rattle.mesh_check.proofs.Alone.{any-filter}
 use Rattle.mesh_check.proofs.Marking.{any-filter_map, passes}
 use Rattle.ma_cells.proofs.Ascents.{has-ascending_of}
@@ -353,16 +353,26 @@ in_region phys elem face tag kind (f ∷ fs) =
 count_holders : (phys elem : ℤ) (face : List Coordinates) (tets : List Tetrahedron) → count_by (has_side (face, (phys, elem))) tets ≡ holders phys elem face tets
 count_holders phys elem face tets = ap (λ f. count_by f tets) (λ i t. in_region phys elem face t.phys t.elem (faces_of t.corners) i)
 
+-- a face that one tetrahedron of a region has carries the mark of an outer face
+pub outer_face : (raw : Raw) (shift : ℕ) (tets : List Tetrahedron) → AreSolid tets → (phys elem : ℤ) (face : List Coordinates) → holders phys elem face tets ≡ 1
+    → has mark_cmp (outer_mark face) (found_marks raw shift tets) ≡ true
+outer_face raw shift tets solid phys elem face once =
+    marked_once (filter_map (kept_mark (is_on tets) raw.nodes shift) raw.marks) (face, (phys, elem)) tets solid (count_holders phys elem face tets ∙ once)
+
+-- a face that carries it is marked
+carries : (face : List Coordinates) (marks : List CellMark) → has mark_cmp (outer_mark face) marks ≡ true → is_marked marks face ≡ true
+carries face marks there =
+    any-at mark_cmp-IsAntisymmetric (λ mark. eq_by_cmp (slice_cmp place_cmp) (corners_of mark.cell) face) (outer_mark face) marks there (ap is_eq (tied_itself (lists_total place_cmp_total) face))
+
 pub faces_met : (raw : Raw) (shift : ℕ) (tets : List Tetrahedron) → AreSolid tets → AllPairs AreApart tets → (phys elem : ℤ) (face : List Coordinates)
     → IsPairedOrMarked (holders phys elem face tets) face (found_marks raw shift tets)
 faces_met raw shift tets solid apart phys elem face =
-    let kept : List CellMark = filter_map (kept_mark (is_on tets) raw.nodes shift) raw.marks in
     let side : Side = (face, (phys, elem)) in
     subst (λ n. IsPairedOrMarked n face (found_marks raw shift tets)) (count_holders phys elem face tets)
     (elim (which (count_by (has_side side) tets) (had_twice side tets apart)) [
       | inl none ↦ inl none
       | inr some ↦ elim some [
         | inl twice ↦ inr (inl twice)
-        | inr once ↦ inr (inr (once, marked_once kept side tets solid once))
+        | inr once ↦ inr (inr (once, carries face (found_marks raw shift tets) (outer_face raw shift tets solid phys elem face (sym (count_holders phys elem face tets) ∙ once))))
       ]
     ])

@@ -10,7 +10,8 @@ use Rattle.overlap_check.proofs.NoOverlap.{all_separated, no_overlap_covers_once
 use Rattle.msh_read.specs.Raw.{Raw}
 use Rattle.mesh_check.specs.FoundMarks.{found_marks}
 use Rattle.ma_cover.specs.Sound.{IsSound}
-use Rattle.mesh_check.proofs.FaceCounts.{AreApart, AreSolid, faces_met, lie_apart}
+use Rattle.mesh_check.specs.Accepted.{IsAcceptedMesh}
+use Rattle.mesh_check.proofs.FaceCounts.{AreApart, AreSolid, faces_met, lie_apart, outer_face}
 use Rattle.mesh_check.proofs.MarksOn.{marks_on_cells}
 
 all_apart : (tets : List Tetrahedron) → AreSolid tets → first_overlap_of tets ≡ None → AllPairs AreApart tets
@@ -27,12 +28,18 @@ mesh_is_sound raw shift tets are none =
         faces = λ phys elem face. faces_met raw shift tets solid apart phys elem face;
         on_cells = marks_on_cells raw shift tets;
       };
-      once = λ p. no_overlap_covers_once p tets none;
+      once = λ p _. no_overlap_covers_once p tets none;
     }
 
+pub mesh_is_accepted : (raw : Raw) (shift : ℕ) (tets : List Tetrahedron) → are_tetrahedra tets ≡ true → first_overlap_of tets ≡ None
+    → IsAcceptedMesh tets (found_marks raw shift tets)
+mesh_is_accepted raw shift tets are none = record {
+  outer = λ phys elem face once. outer_face raw shift tets (AllPass-from_list_all (λ tet. are_corners tet.corners) tets are) phys elem face once;
+  once = λ p. no_overlap_covers_once p tets none;
+}
+
 -- the mesh with these tetrahedra, read once as a slice, and with its marks
-pub sound-is : (raw : Raw) (shift : ℕ) (tets slice : List Tetrahedron) (marks : List CellMark) (loose : ℕ) (mesh : MarkedMesh) → are_tetrahedra tets ≡ true → first_overlap_of tets ≡ None
-    → slice ≡ tets → marks ≡ found_marks raw shift slice → mesh ≡ record { tets = tets; marks = marks; loose = loose } → IsSound mesh.tets mesh.marks
-sound-is raw shift tets slice marks loose mesh are none same found is =
-    let marked : IsSound tets marks = subst (IsSound tets) (sym (found ∙ ap (found_marks raw shift) same)) (mesh_is_sound raw shift tets are none) in
-    subst (λ (m : MarkedMesh). IsSound m.tets m.marks) (sym is) marked
+pub whole_mesh : (P : List Tetrahedron → List CellMark → Type 0) (raw : Raw) (shift : ℕ) (tets slice : List Tetrahedron) (marks : List CellMark) (loose : ℕ) (mesh : MarkedMesh)
+    → slice ≡ tets → marks ≡ found_marks raw shift slice → mesh ≡ record { tets = tets; marks = marks; loose = loose } → P tets (found_marks raw shift tets) → P mesh.tets mesh.marks
+whole_mesh P raw shift tets slice marks loose mesh same found is h =
+    subst (λ (m : MarkedMesh). P m.tets m.marks) (sym is) (subst (P tets) (sym (found ∙ ap (found_marks raw shift) same)) h)

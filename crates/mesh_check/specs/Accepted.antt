@@ -1,10 +1,11 @@
 -- What a raw mesh is accepted as: the mesh after the shift, or its first fault.
-use Rattle.std.specs.Prelude.{ℕ, ◌+◌, nat_lt, ◌==◌, not, if◌then◌else◌, List, ◌++◌, length, map, count_by, Option, Some, None, Result, Ok, Err}
+use Rattle.std.specs.Prelude.{ℕ, ℤ, ◌≡◌, ◌≤◌, true, ◌+◌, nat_lt, ◌==◌, not, if◌then◌else◌, List, ◌++◌, length, map, count_by, Option, Some, None, Result, Ok, Err}
 use Rattle.std.specs.Cmp.Lexicographic.{slice_cmp}
 use Rattle.std.specs.List.{filter_map, find}
 use Rattle.std.specs.Option.{is_none, option_and_then, option_map}
 use Rattle.ma_geom.specs.Coordinates.{Coordinates, place_cmp}
-use Rattle.ma_cells.specs.Ascending.{ascending_of}
+use Rattle.ma_geom.specs.Rational.{Rational}
+use Rattle.ma_cells.specs.Ascending.{ascending_of, has}
 use Rattle.ma_cells.specs.Cells.{CellMark, mark_cmp, mark_on}
 use Rattle.ma_cells.specs.Meshes.{MarkedMesh, corner_sets}
 use Rattle.ma_cells.specs.Tetrahedron.{Tetrahedron, is_flat}
@@ -18,7 +19,9 @@ use Rattle.overlap_check.specs.Overlap.{first_overlap_of}
 use Rattle.mesh_check.specs.Pairs.{first_pair, numbered}
 use Rattle.mesh_check.specs.Places.{corner_positions, is_in_range, shifted}
 use Rattle.ma_cells.specs.Incidence.{is_on}
-use Rattle.mesh_check.specs.Marks.{outer_marks}
+use Rattle.ma_cover.specs.Cover.{whole_cover}
+use Rattle.ma_cover.specs.Sound.{holders}
+use Rattle.mesh_check.specs.Marks.{outer_mark, outer_marks}
 
 -- how many tetrahedra a mesh may have
 abbrev pub most_tets : ℕ
@@ -89,3 +92,10 @@ accepted_of raw shift = do
   no_pair Repeated (first_pair (slice_cmp place_cmp) (numbered 1 (corner_sets (solids_at raw shift))))
   apart (solids_at raw shift)
   Ok (mesh_at raw shift)
+
+-- What holds of an accepted mesh beyond soundness
+pub record IsAcceptedMesh (tets : List Tetrahedron) (marks : List CellMark) : Type 0 where
+  -- each face that exactly one tetrahedron of a region has carries the mark of an outer face
+  pub outer : (phys elem : ℤ) (face : List Coordinates) → holders phys elem face tets ≡ 1 → has mark_cmp (outer_mark face) marks ≡ true
+  -- no rational point, also on a face, is within two of the tetrahedra
+  pub once : (p : Rational) → whole_cover p tets ≤ 1

@@ -2,7 +2,7 @@
 ghost use Rattle.std.specs.Prelude.{◌≡◌, ◌≤◌, IfOk, true};
 ghost use Rattle.ma_cells.specs.Tetrahedron.{are_tetrahedra};
 ghost use Rattle.msh_read.specs.Raw.{raw};
-ghost use Rattle.mesh_check.specs.Accepted.{accepted_of, apart};
+ghost use Rattle.mesh_check.specs.Accepted.{IsAcceptedMesh, accepted_of, apart};
 ghost use Rattle.mesh_check.specs.Answer.{Answers};
 ghost use Rattle.mesh_check.specs.FoundMarks.{found_of};
 ghost use Rattle.ma_cover.specs.Sound.{IsSound};
@@ -33,8 +33,9 @@ fn apart(alloc: Global, tets: &[Tet]) -> Result<(), MeshFault>
 fn found(alloc: Global, mesh: &RawMesh, shift: u32) -> Result<Mesh, MeshFault>
     requires { shift ≤ 30 }
     ensures value { Answers (λ mesh. mesh) result (found_of (raw mesh.now) shift) }
-    ensures solid { IfOk result (λ mesh. are_tetrahedra mesh.tets ≡ true) }
+    ensures not_flat { IfOk result (λ mesh. are_tetrahedra mesh.tets ≡ true) }
     ensures sound { IfOk result (λ mesh. IsSound mesh.tets mesh.marks) }
+    ensures accepted { IfOk result (λ mesh. IsAcceptedMesh mesh.tets mesh.marks) }
 {
     let tets = tets(alloc, mesh, shift)?;
     apart(alloc, tets.as_slice())?;
@@ -51,8 +52,9 @@ fn found(alloc: Global, mesh: &RawMesh, shift: u32) -> Result<Mesh, MeshFault>
 pub fn accept(alloc: Global, mesh: &RawMesh, shift: u32) -> Result<Mesh, MeshFault>
     requires { shift ≤ 30 }
     ensures exact { Answers (λ mesh. mesh) result (accepted_of (raw mesh.now) shift) }
-    ensures solid { IfOk result (λ mesh. are_tetrahedra mesh.tets ≡ true) }
+    ensures not_flat { IfOk result (λ mesh. are_tetrahedra mesh.tets ≡ true) }
     ensures sound { IfOk result (λ mesh. IsSound mesh.tets mesh.marks) }
+    ensures accepted { IfOk result (λ mesh. IsAcceptedMesh mesh.tets mesh.marks) }
 {
     found(alloc, mesh, shift)
 }
