@@ -1,8 +1,9 @@
-pub mod Carried
 pub mod Numbers
-pub mod Running
+pub mod Pieces
 pub mod Reading
 pub mod Accepting
+pub mod Acting
+pub mod InTurn
+pub mod Running
+pub mod Ending
 pub mod Kept
-pub mod Pieces
-pub mod Finished

@@ -1,82 +1,136 @@
--- One round after others.
-use Rattle.std.proofs.Common.{◌≡◌, ℕ, suc, ◌+◌, ◌-◌, ◌<◌, ◌≤◌, false, length, List, ◌++◌, Option, Some, None, inl, inr, sym, subst, ap, ◌∙◌, add-one, arith}
-use Rattle.std.specs.Prelude.{IfSome}
+-- One round after others, and rounds after the line of the mesh.
+use Rattle.std.proofs.Common.{◌≡◌, ℕ, suc, ◌+◌, ◌-◌, ◌<◌, ◌≤◌, false, List, [], ◌∷◌, ◌++◌, length, inl, inr, refl, sym, subst, ap, add-one, arith}
+use Rattle.std.specs.Prelude.{Err}
 use Rattle.std.proofs.lemmas.Bool.{cases_lt}
 use Rattle.ma_cells.specs.declared.batch.Batch.{Batch}
-use Rattle.ma_io.specs.Count.{Rose}
-use Rattle.one_mesh.specs.Adaptation.{IsFirstPast, StaysWithin, adapted, most_tets}
+use Rattle.ma_io.specs.Received.{Received}
+use Rattle.one_mesh.specs.Adaptation.{IsFirstPast, IsFirstStagePast, Plan, RoundStaysWithin, StaysWithin, adapted, last_stage, most_adapted_tets, staged}
 use Rattle.one_mesh.specs.Holding.{Holding}
-use Rattle.one_mesh.specs.Refinement.{refine}
-use Rattle.size_marks.specs.Field.{Field}
-use Rattle.meshadapt.specs.declared.rounds.Halt.{Halt}
-use Rattle.meshadapt.specs.declared.rounds.Halt.TheVariants as halt
-use Rattle.meshadapt.specs.Outcome.{Seen}
-use Rattle.meshadapt.specs.Printed.{round_line, round_lines}
-use Rattle.meshadapt.specs.Steps.{HaltsRound, HaltsRounds, PutsAll, RanRound, RanRounds}
-use Rattle.meshadapt.proofs.Carried.{puts_more}
+use Rattle.meshadapt.specs.declared.halt.Halt.{Halt}
+use Rattle.meshadapt.specs.declared.halt.Halt.TheVariants as halt
+use Rattle.meshadapt.specs.Acts.{Act, PutLine, StoreFile, begun, bytes_of, final_text, round_acts}
+use Rattle.meshadapt.specs.Outcome.{Puts, PutsFront}
+use Rattle.meshadapt.specs.Printed.{done_line, mesh_line, mesh_name, round_line}
+use Rattle.meshadapt.specs.Verdict.{Inputs, plan_of}
+use Rattle.meshadapt.specs.Words.{Job}
+use Rattle.meshadapt.specs.steps.Running.{Begins, HaltsBegun, HaltsRounds, PutsLine, RanRounds, RunsRound, RunsRounds}
+use Rattle.meshadapt.proofs.Acting.{among_begun, among_first, bytes_of-line, next_round, rounds_store_nothing}
+use Rattle.meshadapt.proofs.InTurn.{front_after, front_then, puts_then}
 
--- what a sink means, beside a depot of which nothing is said
-abbrev pub sink_alone : Option (List ℕ) → ℕ → Seen
-sink_alone written faults = record { files = None; fetch_faults = 0; store_faults = 0; denied = 0; written = written; faults = faults }
+-- ---- one round more
+module _ (plan : Plan) (mesh : Batch) where
+  held_is : (done : ℕ) (held : Holding) → held ≡ record { mesh = adapted plan done mesh; spent = false } → held.mesh ≡ adapted plan done mesh
+  held_is done held is = ap (λ (h : Holding). h.mesh) is
 
--- what holds of one more holds of all up to it
-one_higher : (P : ℕ → Type 0) (n : ℕ) → ((k : ℕ) → 1 ≤ k → k ≤ n → P k) → P (suc n) → (k : ℕ) → 1 ≤ k → k ≤ suc n → P k
-one_higher P n below last k low high =
-    elim (cases_lt k (suc n)) [
-      | inl less ↦ below k low (omega arith)
-      | inr not_less ↦ let e : suc n ≡ k = omega arith in subst P e last
-    ]
+  back_one : (done : ℕ) → done + 1 - 1 ≡ done
+  back_one done = omega arith
 
-made_is : (field : Field) (done : ℕ) (mesh : Batch) (held : Holding) → held ≡ record { mesh = adapted field done mesh; spent = false } → refine field held.mesh ≡ adapted field (suc done) mesh
-made_is field done mesh held is = ap (λ (h : Holding). refine field h.mesh) is
+  one_within : (done : ℕ) → StaysWithin plan done mesh → RoundStaysWithin plan (adapted plan done mesh) → StaysWithin plan (done + 1) mesh
+  one_within done within next = λ round stage least greatest last.
+      elim (cases_lt round (done + 1)) [
+        | inl less ↦ within round stage least (omega arith) last
+        | inr not_less ↦
+            let e : done ≡ round - 1 = omega arith in
+            subst (λ (n : ℕ). length (staged plan stage (adapted plan n mesh)).tets ≤ most_adapted_tets) e (next stage last)
+      ]
 
--- one more round was run
-one_more' : (field : Field) (done : ℕ) (mesh made : Batch) (new : Holding) (s m t : Seen) → made ≡ adapted field (suc done) mesh
-    → StaysWithin field done mesh → PutsAll (round_lines field done mesh) s m → RanRound (suc done) made new m t → RanRounds field (suc done) mesh new s t
-one_more' field done mesh made new s m t is within puts ran =
-    let ran' : RanRound (suc done) (adapted field (suc done) mesh) new m t = subst (λ (b : Batch). RanRound (suc done) b new m t) is ran in (
-      ran'.0,
-      one_higher (λ k. length (adapted field k mesh).tets ≤ most_tets) done within ran'.1,
-      (ran'.2.0 ∙ puts.0, puts_more s.written m.written t.written (round_lines field done mesh) (round_line (suc done) (adapted field (suc done) mesh)) puts.1 ran'.2.1),
-    )
+  -- what a round that was run leaves
+  abbrev pub Round : ℕ → Batch → Holding → Received → Received → Type 0
+  Round n b new m t = (new ≡ record { mesh = staged plan (last_stage plan) b; spent = false }) × RoundStaysWithin plan b × Puts (round_line n (staged plan (last_stage plan) b)) m t
 
-pub one_more : (field : Field) (done : ℕ) (mesh : Batch) (held new : Holding) (s m t : Seen) → RanRounds field done mesh held s m
-    → RanRound (done + 1) (refine field held.mesh) new m t → RanRounds field (done + 1) mesh new s t
-one_more field done mesh held new s m t before ran =
-    let ran' : RanRound (suc done) (refine field held.mesh) new m t = subst (λ (k : ℕ). RanRound k (refine field held.mesh) new m t) (add-one done) ran in
-    subst (λ (k : ℕ). RanRounds field k mesh new s t) (sym (add-one done))
-    (one_more' field done mesh (refine field held.mesh) new s m t (made_is field done mesh held before.0) before.1 before.2 ran')
+  more_put : (done : ℕ) (s m t : Received) → Puts (bytes_of (round_acts plan done mesh)) s m → Puts (round_line (suc done) (adapted plan (suc done) mesh)) m t → Puts (bytes_of (round_acts plan (suc done) mesh)) s t
+  more_put done s m t h k =
+      let line : List ℕ = round_line (suc done) (adapted plan (suc done) mesh) in
+      subst (λ (bytes : List ℕ). Puts bytes s t) (sym (bytes_of-line (round_acts plan done mesh) line)) (puts_then (bytes_of (round_acts plan done mesh)) line s m t h k)
 
-first_past : (field : Field) (done rounds : ℕ) (mesh : Batch) (count : ℕ) → done < rounds → StaysWithin field done mesh
-    → count ≡ length (adapted field (suc done) mesh).tets → most_tets < count → IsFirstPast field rounds mesh (suc done) count
-first_past field done rounds mesh count more within is past = record {
-  least = omega arith;
-  greatest = omega arith;
-  count_is = is;
-  past = past;
-  before = λ earlier low less. within earlier low (omega arith);
-}
+  pub one_more : (done : ℕ) (held new : Holding) (s m t : Received) → RanRounds plan done mesh held s m → Round (done + 1) held.mesh new m t → RanRounds plan (done + 1) mesh new s t
+  one_more done held new s m t before ran =
+      let ran' : Round (suc done) (adapted plan done mesh) new m t
+      = subst (λ (b : Batch). Round (suc done) b new m t) (held_is done held before.0) (subst (λ (n : ℕ). Round n held.mesh new m t) (add-one done) ran) in
+      let within = one_within done before.1 ran'.1 in
+      let within' : StaysWithin plan (suc done) mesh = subst (λ (n : ℕ). StaysWithin plan n mesh) (add-one done) within in
+      subst (λ (n : ℕ). RanRounds plan n mesh new s t) (sym (add-one done)) (ran'.0, within', more_put done s m t before.2 ran'.2)
 
--- the next round is past the limit
-pub stops : (field : Field) (done rounds : ℕ) (mesh : Batch) (held : Holding) (s m t : Seen) (round count : ℕ) → done < rounds → RanRounds field done mesh held s m
-    → round ≡ done + 1 → count ≡ length (refine field held.mesh).tets → most_tets < count → t.faults ≡ m.faults → t.written ≡ m.written
-    → IsFirstPast field rounds mesh round count × PutsAll (round_lines field (round - 1) mesh) s t
-stops field done rounds mesh held s m t round count more before is count_is past faults written =
-    let is' : suc done ≡ round = omega arith in
-    let first : IsFirstPast field rounds mesh (suc done) count =
-    first_past field done rounds mesh count more before.1 (count_is ∙ ap (λ (b : Batch). length b.tets) (made_is field done mesh held before.0)) past in
-    let earlier : done ≡ round - 1 = omega arith in
-    let puts : IfSome s.written (λ bytes. t.written ≡ Some (bytes ++ round_lines field done mesh)) =
-    subst (λ (w : Option (List ℕ)). IfSome s.written (λ bytes. w ≡ Some (bytes ++ round_lines field done mesh))) (sym written) before.2.1 in (
-      subst (λ (k : ℕ). IsFirstPast field rounds mesh k count) is' first,
-      subst (λ (k : ℕ). PutsAll (round_lines field k mesh) s t) earlier (faults ∙ before.2.0, puts),
-    )
+  past : (done rounds : ℕ) (held : Holding) (s m t : Received) (round stage count : ℕ) → done < rounds → RanRounds plan done mesh held s m → round ≡ done + 1
+      → IsFirstStagePast plan held.mesh stage count → t ≡ m → IsFirstPast plan rounds mesh round stage count × Puts (bytes_of (round_acts plan (round - 1) mesh)) s t
+  past done rounds held s m t round stage count more before round_is first same =
+      let first' : IsFirstStagePast plan (adapted plan done mesh) stage count = subst (λ (b : Batch). IsFirstStagePast plan b stage count) (held_is done held before.0) first in
+      let e : done ≡ round - 1 = omega arith in (
+        record {
+          least = omega arith;
+          greatest = omega arith;
+          in_round = subst (λ (n : ℕ). IsFirstStagePast plan (adapted plan n mesh) stage count) e first';
+          before = subst (λ (n : ℕ). StaysWithin plan n mesh) e before.1;
+        },
+        subst (λ (n : ℕ). Puts (bytes_of (round_acts plan n mesh)) s t) e (subst (λ (r : Received). Puts (bytes_of (round_acts plan done mesh)) s r) (sym same) before.2),
+      )
 
--- what stops the next round stops the rounds
-pub halts : (field : Field) (done rounds : ℕ) (mesh : Batch) (held : Holding) (s m t : Seen) (why : Halt) → done < rounds → RanRounds field done mesh held s m
-    → HaltsRound why (done + 1) (refine field held.mesh) m t → HaltsRounds why field rounds mesh s t
-halts field done rounds mesh held s m t (halt.TooMany round stage count) more before ran =
-    let e = stops field done rounds mesh held s m t round count more before ran.0 ran.2 ran.3 ran.4 ran.5 in
-    (ran.1, e.0, e.1)
-halts field done rounds mesh held s m t halt.Failed more before ran = subst (λ (n : ℕ). Rose n t.faults) before.2.0 ran
-halts field done rounds mesh held s m t halt.Memory more before ran = tt
+  unput : (done rounds : ℕ) (held : Holding) (s m t : Received) → done < rounds → RanRounds plan done mesh held s m
+      → RoundStaysWithin plan held.mesh × PutsFront [] (round_line (done + 1) (staged plan (last_stage plan) held.mesh)) m t → HaltsRounds plan rounds mesh s t
+  unput done rounds held s m t more before h =
+      let at : RoundStaysWithin plan (adapted plan done mesh) × PutsFront [] (round_line (done + 1) (adapted plan (suc done) mesh)) m t
+      = subst (λ (b : Batch). RoundStaysWithin plan b × PutsFront [] (round_line (done + 1) (staged plan (last_stage plan) b)) m t) (held_is done held before.0) h in
+      let line : PutsFront [] (round_line (done + 1) (adapted plan (done + 1) mesh)) m t
+      = subst (λ (n : ℕ). PutsFront [] (round_line (done + 1) (adapted plan n mesh)) m t) (sym (add-one done)) at.1 in
+      record {
+        done = done;
+        more = omega arith;
+        within = one_within done before.1 at.0;
+        front = front_after (bytes_of (round_acts plan done mesh)) (round_line (done + 1) (adapted plan (done + 1) mesh)) s m t before.2 line;
+      }
+
+  -- what stops the next round stops the rounds
+  pub halts : (X Y : Type 0) (done rounds : ℕ) (held new last : Holding) (s m t : Received) (why : Halt) → done < rounds → RanRounds plan done mesh held s m
+      → RunsRound {X = X} (Err why) (done + 1) plan held.mesh new m t → RunsRounds {X = Y} (Err why) plan rounds mesh last s t
+  halts X Y done rounds held new last s m t (halt.Unread file) more before ran = ran
+  halts X Y done rounds held new last s m t (halt.Refused refusal) more before ran = ran
+  halts X Y done rounds held new last s m t (halt.TooMany round stage count) more before ran = past done rounds held s m t round stage count more before ran.0 ran.1 ran.2
+  halts X Y done rounds held new last s m t (halt.Unstored name) more before ran = ran
+  halts X Y done rounds held new last s m t halt.Unput more before ran = unput done rounds held s m t more before ran
+  halts X Y done rounds held new last s m t halt.Memory more before ran = tt
+
+-- ---- the line of the mesh, and the rounds
+module _ (job : Job) (inputs : Inputs) where
+  abbrev tail : List Act
+  tail = StoreFile (mesh_name job) (final_text job inputs) ∷ PutLine done_line ∷ []
+
+  pub first_halts : (X Y : Type 0) (new : Holding) (s t : Received) (why : Halt) → PutsLine {X = X} (Err why) (mesh_line inputs.mesh inputs.loose) s t → Begins {X = Y} (Err why) job inputs new s t
+  first_halts X Y new s t (halt.Unread file) h = h
+  first_halts X Y new s t (halt.Refused refusal) h = h
+  first_halts X Y new s t (halt.TooMany round stage count) h = absurd h
+  first_halts X Y new s t (halt.Unstored name) h = h
+  first_halts X Y new s t halt.Unput h = record {
+    done = [];
+    line = mesh_line inputs.mesh inputs.loose;
+    rest = round_acts (plan_of job inputs) job.rounds inputs.mesh ++ tail;
+    acts_are = refl;
+    within = among_first job inputs (mesh_line inputs.mesh inputs.loose);
+    none_stored = refl;
+    front = h;
+  }
+  first_halts X Y new s t halt.Memory h = tt
+
+  begun_unput : (s m t : Received) → Puts (mesh_line inputs.mesh inputs.loose) s m → HaltsRounds (plan_of job inputs) job.rounds inputs.mesh m t → HaltsBegun job inputs s t
+  begun_unput s m t h k =
+      let plan : Plan = plan_of job inputs in
+      let line : List ℕ = round_line (k.done + 1) (adapted plan (k.done + 1) inputs.mesh) in
+      let next = next_round job inputs k.done tail k.more in
+      record {
+        done = begun k.done job inputs;
+        line = line;
+        rest = next.0;
+        acts_are = next.1;
+        within = among_begun job inputs k.done line k.within;
+        none_stored = rounds_store_nothing plan k.done inputs.mesh;
+        front = front_then (mesh_line inputs.mesh inputs.loose) (bytes_of (round_acts plan k.done inputs.mesh)) line s m t h k.front;
+      }
+
+  pub begun_halts : (X Y : Type 0) (held new : Holding) (s m t : Received) (why : Halt) → Puts (mesh_line inputs.mesh inputs.loose) s m
+      → RunsRounds {X = X} (Err why) (plan_of job inputs) job.rounds inputs.mesh held m t → Begins {X = Y} (Err why) job inputs new s t
+  begun_halts X Y held new s m t (halt.Unread file) h k = k
+  begun_halts X Y held new s m t (halt.Refused refusal) h k = k
+  begun_halts X Y held new s m t (halt.TooMany round stage count) h k =
+      (k.0, puts_then (mesh_line inputs.mesh inputs.loose) (bytes_of (round_acts (plan_of job inputs) (round - 1) inputs.mesh)) s m t h k.1)
+  begun_halts X Y held new s m t (halt.Unstored name) h k = k
+  begun_halts X Y held new s m t halt.Unput h k = begun_unput s m t h k
+  begun_halts X Y held new s m t halt.Memory h k = tt

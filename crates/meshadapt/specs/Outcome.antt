@@ -1,71 +1,93 @@
 -- What a run leaves, by the status that it ends with.
-use Rattle.std.specs.Prelude.{◌≡◌, ℕ, ◌-◌, ◌⊎◌, List, ◌++◌, Option, Some, None, Result, Ok, Err, IfSome}
-use Rattle.std.specs.FinMap as map
-use Rattle.ma_cells.specs.declared.batch.Batch.{Batch}
+use Rattle.std.specs.Prelude.{◌≡◌, ℕ, ◌-◌, ◌⊎◌, List, [], ◌∷◌, ◌++◌, take, Option, Some, None, Result, Ok, Err, IfSome}
 use Rattle.ma_io.specs.Count.{Rose}
 use Rattle.ma_io.specs.Files.{Files}
+use Rattle.ma_io.specs.Held.{Held}
+use Rattle.ma_io.specs.Received.{Received}
 use Rattle.ma_io.specs.Store.{HoldsFront}
 use Rattle.mesh_check.specs.declared.fault.MeshFault.TheVariants as faults
 use Rattle.msh_read.specs.declared.fault.MshFault.TheVariants.{At, Memory as NoMemory}
-use Rattle.msh_write.specs.Text.{text_of}
-use Rattle.one_mesh.specs.Adaptation.{IsFirstPast, StaysWithin, adapted}
+use Rattle.one_mesh.specs.Adaptation.{IsFirstPast, StaysWithin}
+use Rattle.meshadapt.specs.Acts.{Act, PutLine, StoreFile, Output, acts, begun, bytes_of, files_with, outputs, rounds_among}
 use Rattle.meshadapt.specs.declared.status.Refusal.{Refusal}
 use Rattle.meshadapt.specs.declared.status.Refusal.TheVariants.{Missing, TooLong, Mesh, Accept, Rounds}
+use Rattle.meshadapt.specs.declared.status.FileKind.{FileKind}
 use Rattle.meshadapt.specs.declared.status.Status.{Status}
 use Rattle.meshadapt.specs.declared.status.Status.TheVariants.{Done, Usage, ReadFault, WriteFault, Refused, TooMany, Memory}
-use Rattle.meshadapt.specs.Printed.{done_line, mesh_line, mesh_name, read_fault_line, refused_line, round_lines, too_many_line, usage_line, write_fault_line}
-use Rattle.meshadapt.specs.Verdict.{Accepted, verdict}
-use Rattle.meshadapt.specs.Words.{Job, field_of}
+use Rattle.meshadapt.specs.Printed.{file_name, read_fault_line, refused_line, too_many_line, usage_line, write_fault_line}
+use Rattle.meshadapt.specs.Verdict.{Inputs, plan_of, verdict}
+use Rattle.meshadapt.specs.Words.{Job}
 
 -- what the depot and the sink mean at one moment
 pub record Seen : Type 0 where
-  pub files : Option Files
-  pub fetch_faults : ℕ
-  pub store_faults : ℕ
-  pub denied : ℕ
-  pub written : Option (List ℕ)
-  pub faults : ℕ
+  pub depot : Held
+  pub sink : Received
+
+abbrev pub seen : Held → Received → Seen
+seen depot sink = record { depot = depot; sink = sink }
 
 -- where the depot tells its files, this is the verdict on the job
-abbrev pub IsVerdict : Seen → Job → Result Accepted Refusal → Type 0
-IsVerdict s job v = IfSome s.files (λ files. verdict files job ≡ v)
+abbrev pub IsVerdict : Seen → Job → Result Inputs Refusal → Type 0
+IsVerdict s job v = IfSome s.depot.files (λ files. verdict files job ≡ v)
 
--- the mesh after all rounds
-abbrev pub final : Job → Batch → Batch
-final job mesh = adapted (field_of job) job.rounds mesh
+-- ---- files, before and after
+-- where they were told, they are the old ones with these outputs put in. Where there is no output, no file has changed
+abbrev pub Stores : List Output → Option Files → Option Files → Type 0
+Stores [] before after = after ≡ before
+Stores (output ∷ more) before after = IfSome before (λ files. after ≡ Some (files_with (output ∷ more) files))
 
--- its text, with the names of the file
-abbrev pub final_text : Job → Accepted → List ℕ
-final_text job accepted = text_of (final job accepted.mesh) accepted.names
+-- likewise, and the file of this name holds besides a front of these bytes, or what it held
+abbrev pub StoresFront : List Output → List ℕ → List ℕ → Option Files → Option Files → Type 0
+StoresFront stored name bytes before after = IfSome before (λ files. HoldsFront (files_with stored files) after name bytes)
 
--- the line of the mesh, those of so many rounds, and the last line
-abbrev pub lines_with : ℕ → Job → Accepted → List ℕ → List ℕ
-lines_with rounds job accepted last =
-    mesh_line accepted.mesh accepted.loose ++ (round_lines (field_of job) rounds accepted.mesh ++ last)
+-- ---- what was put
+-- no put failed, and where the sink told its bytes, these have come to them
+abbrev pub Puts : List ℕ → Received → Received → Type 0
+Puts bytes s t = (t.faults ≡ s.faults) × IfSome s.written (λ before. t.written ≡ Some (before ++ bytes))
 
--- where the depot told its files, they are the old ones with this text of the mesh
-abbrev pub Stores : Seen → Seen → Job → List ℕ → Type 0
-Stores s t job text = IfSome s.files (λ files. t.files ≡ Some (map.insert files (mesh_name job) text))
+-- these bytes have come to them, and of a line whose put failed a front
+abbrev pub PutsFront : List ℕ → List ℕ → Received → Received → Type 0
+PutsFront bytes line s t = Rose s.faults t.faults × IfSome s.written (λ before. (n : ℕ) × (t.written ≡ Some (before ++ (bytes ++ take n line))))
 
--- likewise, with a front of the text, or with what was there
-abbrev pub StoresFront : Seen → Seen → Job → List ℕ → Type 0
-StoresFront s t job text = IfSome s.files (λ files. HoldsFront files t.files (mesh_name job) text)
+-- these bytes have come to them, and then the last line of the run, or a front of it if its put failed
+abbrev pub PutsLast : List ℕ → List ℕ → Received → Received → Type 0
+PutsLast bytes line s t = Puts (bytes ++ line) s t ⊎ PutsFront bytes line s t
 
--- No file has changed; or the mesh stays within the limit, and the text after all rounds is stored, or a front of it.
-abbrev pub StoresAtMost : Seen → Seen → Job → Accepted → Type 0
-StoresAtMost s t job accepted =
-    (t.files ≡ s.files) ⊎ (StaysWithin (field_of job) job.rounds accepted.mesh × StoresFront s t job (final_text job accepted))
+-- ---- by the status
+-- the job of the words was accepted, and its run came to this act after these. The rounds whose lines were put or due are within the limit
+pub record ComesTo (words : Option Job) (s : Seen) (job : Job) (inputs : Inputs) (done : List Act) (act : Act) : Type 0 where
+  pub words_are : words ≡ Some job
+  pub verdict : IsVerdict s job (Ok inputs)
+  pub rest : List Act
+  pub acts_are : acts job inputs ≡ done ++ act ∷ rest
+  pub within : StaysWithin (plan_of job inputs) (rounds_among job (done ++ act ∷ [])) inputs.mesh
 
--- where the sink told its bytes, these have come to them
-abbrev pub Prints : Seen → Seen → List ℕ → Type 0
-Prints s t bytes = IfSome s.written (λ before. t.written ≡ Some (before ++ bytes))
+-- all acts were done
+pub record LeavesDone (words : Option Job) (s t : Seen) : Type 0 where
+  pub job : Job
+  pub inputs : Inputs
+  pub words_are : words ≡ Some job
+  pub verdict : IsVerdict s job (Ok inputs)
+  pub within : StaysWithin (plan_of job inputs) job.rounds inputs.mesh
+  pub files : Stores (outputs (acts job inputs)) s.depot.files t.depot.files
+  pub printed : Puts (bytes_of (acts job inputs)) s.sink t.sink
 
--- likewise, unless the sink counted a fault
-abbrev pub PrintsUnlessFailed : Seen → Seen → List ℕ → Type 0
-PrintsUnlessFailed s t bytes = Rose s.faults t.faults ⊎ Prints s t bytes
+pub record LeavesUsage (words : Option Job) (s t : Seen) : Type 0 where
+  pub words_are : words ≡ None
+  pub files : t.depot.files ≡ s.depot.files
+  pub printed : PutsLast [] usage_line s.sink t.sink
+
+-- the fetch of a file of the job failed
+pub record LeavesReadFault (words : Option Job) (s t : Seen) : Type 0 where
+  pub job : Job
+  pub file : FileKind
+  pub words_are : words ≡ Some job
+  pub counted : Rose s.depot.fetch_faults t.depot.fetch_faults
+  pub files : t.depot.files ≡ s.depot.files
+  pub printed : PutsLast [] (read_fault_line (file_name job file)) s.sink t.sink
 
 -- A file is missing or too long only where the depot counted that. No refusal is want of memory.
-abbrev pub RefusalCounted : Refusal → Seen → Seen → Type 0
+abbrev pub RefusalCounted : Refusal → Held → Held → Type 0
 RefusalCounted (Missing file) s t = Rose s.denied t.denied
 RefusalCounted (TooLong file) s t = Rose s.denied t.denied
 RefusalCounted (Mesh (At line kind)) s t = Unit {0}
@@ -74,79 +96,72 @@ RefusalCounted (Accept faults.Memory) s t = ⊥
 RefusalCounted (Accept fault) s t = Unit {0}
 RefusalCounted (Rounds rounds grid) s t = Unit {0}
 
-pub record LeavesDone (words : Option Job) (s t : Seen) : Type 0 where
-  pub job : Job
-  pub accepted : Accepted
-  pub words_are : words ≡ Some job
-  pub verdict : IsVerdict s job (Ok accepted)
-  pub within : StaysWithin (field_of job) job.rounds accepted.mesh
-  pub files : Stores s t job (final_text job accepted)
-  pub printed : Prints s t (lines_with job.rounds job accepted done_line)
-
-pub record LeavesUsage (words : Option Job) (s t : Seen) : Type 0 where
-  pub words_are : words ≡ None
-  pub files : t.files ≡ s.files
-  pub printed : PrintsUnlessFailed s t usage_line
-
-pub record LeavesReadFault (words : Option Job) (s t : Seen) : Type 0 where
-  pub job : Job
-  pub words_are : words ≡ Some job
-  pub counted : Rose s.fetch_faults t.fetch_faults
-  pub files : t.files ≡ s.files
-  pub printed : PrintsUnlessFailed s t (read_fault_line job.mesh)
-
 pub record LeavesRefused (refusal : Refusal) (words : Option Job) (s t : Seen) : Type 0 where
   pub job : Job
   pub words_are : words ≡ Some job
   pub verdict : IsVerdict s job (Err refusal)
-  pub counted : RefusalCounted refusal s t
-  pub files : t.files ≡ s.files
-  pub printed : PrintsUnlessFailed s t (refused_line refusal)
+  pub counted : RefusalCounted refusal s.depot t.depot
+  pub files : t.depot.files ≡ s.depot.files
+  pub printed : PutsLast [] (refused_line refusal) s.sink t.sink
 
--- no round past the limit is printed, nor one after it
+-- the acts before the first round past the limit were done
 pub record LeavesTooMany (round stage count : ℕ) (words : Option Job) (s t : Seen) : Type 0 where
   pub job : Job
-  pub accepted : Accepted
+  pub inputs : Inputs
   pub words_are : words ≡ Some job
-  pub verdict : IsVerdict s job (Ok accepted)
-  pub stage_is : stage ≡ 0
-  pub first : IsFirstPast (field_of job) job.rounds accepted.mesh round count
-  pub files : t.files ≡ s.files
-  pub printed : PrintsUnlessFailed s t (lines_with (round - 1) job accepted (too_many_line round stage count))
+  pub verdict : IsVerdict s job (Ok inputs)
+  pub first : IsFirstPast (plan_of job inputs) job.rounds inputs.mesh round stage count
+  pub files : t.depot.files ≡ s.depot.files
+  pub printed : PutsLast (bytes_of (begun (round - 1) job inputs)) (too_many_line round stage count) s.sink t.sink
 
-pub record LeavesWriteFault (words : Option Job) (s t : Seen) : Type 0 where
+-- the store of a file failed
+pub record LeavesUnstored (words : Option Job) (s t : Seen) : Type 0 where
   pub job : Job
-  pub accepted : Accepted
-  pub words_are : words ≡ Some job
-  pub verdict : IsVerdict s job (Ok accepted)
-  pub counted : Rose s.store_faults t.store_faults ⊎ Rose s.faults t.faults
-  pub files : StoresAtMost s t job accepted
-  pub printed : PrintsUnlessFailed s t (lines_with job.rounds job accepted (write_fault_line (mesh_name job)))
+  pub inputs : Inputs
+  pub done : List Act
+  pub name : List ℕ
+  pub bytes : List ℕ
+  pub comes : ComesTo words s job inputs done (StoreFile name bytes)
+  pub counted : Rose s.depot.store_faults t.depot.store_faults
+  pub files : StoresFront (outputs done) name bytes s.depot.files t.depot.files
+  pub printed : PutsLast (bytes_of done) (write_fault_line name) s.sink t.sink
 
--- a run that wants memory has changed no file, or it is at the file that it stores
-pub record StoresMeshFront (words : Option Job) (s t : Seen) : Type 0 where
+-- the put of a line failed
+pub record LeavesUnput (words : Option Job) (s t : Seen) : Type 0 where
   pub job : Job
-  pub accepted : Accepted
-  pub words_are : words ≡ Some job
-  pub verdict : IsVerdict s job (Ok accepted)
-  pub within : StaysWithin (field_of job) job.rounds accepted.mesh
-  pub files : StoresFront s t job (final_text job accepted)
+  pub inputs : Inputs
+  pub done : List Act
+  pub line : List ℕ
+  pub comes : ComesTo words s job inputs done (PutLine line)
+  pub files : Stores (outputs done) s.depot.files t.depot.files
+  pub printed : PutsFront (bytes_of done) line s.sink t.sink
+
+-- memory ran out at the store of a file, or after it
+pub record LeavesStored (words : Option Job) (s t : Seen) : Type 0 where
+  pub job : Job
+  pub inputs : Inputs
+  pub done : List Act
+  pub name : List ℕ
+  pub bytes : List ℕ
+  pub comes : ComesTo words s job inputs done (StoreFile name bytes)
+  pub files : StoresFront (outputs done) name bytes s.depot.files t.depot.files
 
 abbrev pub LeavesMemory : Option Job → Seen → Seen → Type 0
-LeavesMemory words s t = (t.files ≡ s.files) ⊎ StoresMeshFront words s t
+LeavesMemory words s t = (t.depot.files ≡ s.depot.files) ⊎ LeavesStored words s t
 
 abbrev pub Leaves : Status → Option Job → Seen → Seen → Type 0
 Leaves Done words s t = LeavesDone words s t
 Leaves Usage words s t = LeavesUsage words s t
 Leaves ReadFault words s t = LeavesReadFault words s t
-Leaves WriteFault words s t = LeavesWriteFault words s t
+Leaves WriteFault words s t = LeavesUnstored words s t ⊎ LeavesUnput words s t
 Leaves (Refused refusal) words s t = LeavesRefused refusal words s t
 Leaves (TooMany round stage count) words s t = LeavesTooMany round stage count words s t
 Leaves Memory words s t = LeavesMemory words s t
 
+-- ---- when each status comes
 -- no fault was counted
 abbrev pub IsQuiet : Seen → Seen → Type 0
-IsQuiet s t = ¬ (Rose s.fetch_faults t.fetch_faults) × ¬ (Rose s.store_faults t.store_faults) × ¬ (Rose s.faults t.faults)
+IsQuiet s t = ¬ (Rose s.depot.fetch_faults t.depot.fetch_faults) × ¬ (Rose s.depot.store_faults t.depot.store_faults) × ¬ (Rose s.sink.faults t.sink.faults)
 
 -- this status, unless memory ran out
 abbrev pub EndsWith : Status → Status → Type 0
@@ -159,16 +174,16 @@ UsageIsAnswered status words = words ≡ None → EndsWith status Usage
 -- where the depot tells its files and no fault is counted, a refusal that is due is answered
 abbrev pub RefusalIsAnswered : Status → Option Job → Seen → Seen → Type 0
 RefusalIsAnswered status words s t =
-    (job : Job) (files : Files) (refusal : Refusal) → words ≡ Some job → s.files ≡ Some files → verdict files job ≡ Err refusal → IsQuiet s t → EndsWith status (Refused refusal)
+    (job : Job) (files : Files) (refusal : Refusal) → words ≡ Some job → s.depot.files ≡ Some files → verdict files job ≡ Err refusal → IsQuiet s t → EndsWith status (Refused refusal)
 
 -- likewise, a job that is accepted is done, if its mesh stays within the limit
 abbrev pub AcceptedIsDone : Status → Option Job → Seen → Seen → Type 0
 AcceptedIsDone status words s t =
-    (job : Job) (files : Files) (accepted : Accepted) → words ≡ Some job → s.files ≡ Some files → verdict files job ≡ Ok accepted
-    → StaysWithin (field_of job) job.rounds accepted.mesh → IsQuiet s t → EndsWith status Done
+    (job : Job) (files : Files) (inputs : Inputs) → words ≡ Some job → s.depot.files ≡ Some files → verdict files job ≡ Ok inputs
+    → StaysWithin (plan_of job inputs) job.rounds inputs.mesh → IsQuiet s t → EndsWith status Done
 
--- likewise, the first round after which the mesh of such a job is past the limit is answered
+-- likewise, the first stage after which the mesh of such a job is past the limit is answered
 abbrev pub TooManyIsAnswered : Status → Option Job → Seen → Seen → Type 0
 TooManyIsAnswered status words s t =
-    (job : Job) (files : Files) (accepted : Accepted) (round count : ℕ) → words ≡ Some job → s.files ≡ Some files → verdict files job ≡ Ok accepted
-    → IsFirstPast (field_of job) job.rounds accepted.mesh round count → IsQuiet s t → EndsWith status (TooMany round 0 count)
+    (job : Job) (files : Files) (inputs : Inputs) (round stage count : ℕ) → words ≡ Some job → s.depot.files ≡ Some files → verdict files job ≡ Ok inputs
+    → IsFirstPast (plan_of job inputs) job.rounds inputs.mesh round stage count → IsQuiet s t → EndsWith status (TooMany round stage count)

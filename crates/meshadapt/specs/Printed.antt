@@ -1,5 +1,5 @@
 -- The lines that a run prints.
-use Rattle.std.specs.Prelude.{ℕ, zero, suc, List, [], ◌∷◌, ◌++◌, length, map, min, codes}
+use Rattle.std.specs.Prelude.{ℕ, List, [], ◌∷◌, ◌++◌, length, map, min, codes}
 use Rattle.std.specs.Fmt.{decimal, signed_decimal}
 use Rattle.std.specs.List.{count_by}
 use Rattle.ma_geom.specs.Quality.{quality}
@@ -12,8 +12,6 @@ use Rattle.msh_read.specs.declared.fault.MshFault.TheVariants.{At, Memory}
 use Rattle.msh_read.specs.declared.fault.MshKind.{MshKind}
 use Rattle.msh_read.specs.declared.fault.MshKind.TheVariants.{NoFormat, OtherVersion, Binary, BadLine, BadCount, NotWhole, OutOfRange, NodeTwice, NoSuchNode, OtherKind, Truncated, NoNodes, NoElements}
 use Rattle.msh_write.specs.Text.{is_tagged, nodes_of}
-use Rattle.one_mesh.specs.Adaptation.{adapted}
-use Rattle.size_marks.specs.Field.{Field}
 use Rattle.meshadapt.specs.declared.status.FileKind.{FileKind}
 use Rattle.meshadapt.specs.declared.status.FileKind.TheVariants.{MeshFile}
 use Rattle.meshadapt.specs.declared.status.Refusal.{Refusal}
@@ -43,11 +41,6 @@ unfoldable pub round_line : ℕ → Batch → List ℕ
 round_line round mesh =
     ended_line (codes "round " ++ decimal round ++ codes ": tets " ++ decimal (length mesh.tets) ++ codes " nodes " ++ decimal (length (nodes_of mesh.tets)) ++ codes " worst " ++ decimal (worst mesh.tets))
 
--- the lines of so many rounds of adaptation
-abbrev pub round_lines : Field → ℕ → Batch → List ℕ
-round_lines field zero mesh = []
-round_lines field (suc n) mesh = round_lines field n mesh ++ round_line (suc n) (adapted field (suc n) mesh)
-
 -- after this stage of this round there are too many tetrahedra
 unfoldable pub too_many_line : ℕ → ℕ → ℕ → List ℕ
 too_many_line round stage count =
@@ -59,9 +52,13 @@ done_line = ended_line (codes "done: plain")
 abbrev pub usage_line : List ℕ
 usage_line = ended_line (codes "usage")
 
--- what is stored
+-- the name of what is stored
 abbrev pub mesh_name : Job → List ℕ
 mesh_name job = job.out ++ codes ".msh"
+
+-- the name of a file that is fetched for a job
+abbrev pub file_name : Job → FileKind → List ℕ
+file_name job MeshFile = job.mesh
 
 -- the name of the file that couldn't be fetched
 unfoldable pub read_fault_line : List ℕ → List ℕ

@@ -1,7 +1,8 @@
--- What a job's files say: the mesh, or why the job is refused.
+-- What a job's files say: what its run starts from, or why the job is refused.
 use Rattle.std.specs.Prelude.{ℕ, nat_le, if◌then◌else◌, List, length, Option, Some, None, Result, Ok, Err}
 use Rattle.std.specs.FinMap.{get}
 use Rattle.ma_io.specs.Files.{Files}
+use Rattle.ma_cells.specs.Grid.{grid_of}
 use Rattle.ma_cells.specs.Meshes.{MarkedMesh}
 use Rattle.ma_cells.specs.declared.batch.Batch.{Batch}
 use Rattle.mesh_check.specs.Accepted.{accepted_of}
@@ -9,55 +10,69 @@ use Rattle.mesh_check.specs.declared.fault.MeshFault.{MeshFault}
 use Rattle.msh_read.specs.GroupNames.{GroupName}
 use Rattle.msh_read.specs.Raw.{Raw}
 use Rattle.msh_read.specs.Reading.{read_of}
+use Rattle.msh_read.specs.Steps.{◌>>=◌}
 use Rattle.msh_read.specs.declared.fault.MshFault.{MshFault}
-use Rattle.ma_cells.specs.Grid.{grid_of}
+use Rattle.one_mesh.specs.Adaptation.{Plan}
 use Rattle.one_mesh.specs.Holding.{set_of}
+use Rattle.size_marks.specs.Field.{Field}
+use Rattle.meshadapt.specs.declared.status.FileKind.{FileKind}
 use Rattle.meshadapt.specs.declared.status.FileKind.TheVariants.{MeshFile}
 use Rattle.meshadapt.specs.declared.status.Refusal.{Refusal}
 use Rattle.meshadapt.specs.declared.status.Refusal.TheVariants.{Missing, TooLong, Mesh, Accept, Rounds}
-use Rattle.meshadapt.specs.Words.{Job}
+use Rattle.meshadapt.specs.Words.{Job, field_of}
 
--- a mesh that is accepted, its grid exponent, how many of its file's marks were loose, and the names of its file
-pub record Accepted : Type 0 where
+-- what a run starts from: the mesh that is accepted, its grid exponent, how many of its file's marks were loose, the names of its file, and the size of edges
+pub record Inputs : Type 0 where
   pub mesh : Batch
   pub grid : ℕ
   pub loose : ℕ
   pub names : List GroupName
+  pub field : Field
+
+-- what each of its rounds does
+abbrev pub plan_of : Job → Inputs → Plan
+plan_of job inputs = record { field = inputs.field; collapses = job.collapses; swaps = job.swaps }
 
 -- how many bytes a file may have
 abbrev pub longest : ℕ
 longest = 67108864
 
--- the mesh, as sets, with these names
-abbrev pub named : List GroupName → MarkedMesh → Accepted
-named names mesh = record { mesh = set_of mesh; grid = grid_of mesh.tets; loose = mesh.loose; names = names }
+-- the bytes of a file of a job, if it is there
+abbrev pub bytes_in : FileKind → Option (List ℕ) → Result (List ℕ) Refusal
+bytes_in file None = Err (Missing file)
+bytes_in file (Some bytes) = if nat_le (length bytes) longest then Ok bytes else Err (TooLong file)
 
-abbrev pub named_mesh : List GroupName → Result MarkedMesh MeshFault → Result Accepted Refusal
-named_mesh names (Ok mesh) = Ok (named names mesh)
-named_mesh names (Err fault) = Err (Accept fault)
+abbrev pub or_unread : Result Raw MshFault → Result Raw Refusal
+or_unread (Ok raw) = Ok raw
+or_unread (Err fault) = Err (Mesh fault)
 
-abbrev pub mesh_of_raw : Result Raw MshFault → Result Accepted Refusal
-mesh_of_raw (Err fault) = Err (Mesh fault)
-mesh_of_raw (Ok raw) = named_mesh raw.names (accepted_of raw 0)
+-- the raw mesh that the bytes are
+abbrev pub raw_in : List ℕ → Result Raw Refusal
+raw_in bytes = or_unread (read_of bytes)
 
--- the mesh that the bytes of a file are
-unfoldable pub mesh_of : List ℕ → Result Accepted Refusal
-mesh_of bytes = mesh_of_raw (read_of bytes)
+-- the raw mesh in a file, if it is there
+abbrev pub raw_in_file : Option (List ℕ) → Result Raw Refusal
+raw_in_file file = bytes_in MeshFile file >>= raw_in
 
--- the mesh in the file, if there is one, or the first reason to refuse it
-abbrev pub verdict_on : Option (List ℕ) → Result Accepted Refusal
-verdict_on None = Err (Missing MeshFile)
-verdict_on (Some bytes) = if nat_le (length bytes) longest then mesh_of bytes else Err (TooLong MeshFile)
+-- a mesh, as sets, with these names and this size of edges
+abbrev pub inputs_with : Field → List GroupName → MarkedMesh → Inputs
+inputs_with field names mesh = record { mesh = set_of mesh; grid = grid_of mesh.tets; loose = mesh.loose; names = names; field = field }
+
+abbrev pub or_unaccepted : Field → List GroupName → Result MarkedMesh MeshFault → Result Inputs Refusal
+or_unaccepted field names (Ok mesh) = Ok (inputs_with field names mesh)
+or_unaccepted field names (Err fault) = Err (Accept fault)
+
+-- the inputs with the mesh that a raw mesh is
+abbrev pub accepted_in : Field → Raw → Result Inputs Refusal
+accepted_in field raw = or_unaccepted field raw.names (accepted_of raw 0)
 
 -- A round halves the grid, so that there are at most as many rounds as its exponent.
-abbrev pub within_grid : ℕ → Accepted → Result Accepted Refusal
-within_grid rounds accepted =
-    if nat_le rounds accepted.grid then Ok accepted else Err (Rounds rounds accepted.grid)
+abbrev pub within_grid : ℕ → Inputs → Result Inputs Refusal
+within_grid rounds inputs = if nat_le rounds inputs.grid then Ok inputs else Err (Rounds rounds inputs.grid)
 
--- the same of a mesh that may be refused already
-abbrev pub for_rounds : ℕ → Result Accepted Refusal → Result Accepted Refusal
-for_rounds rounds (Ok accepted) = within_grid rounds accepted
-for_rounds rounds (Err refusal) = Err refusal
-
-abbrev pub verdict : Files → Job → Result Accepted Refusal
-verdict files job = for_rounds job.rounds (verdict_on (get files job.mesh))
+-- the mesh's file is there, it can be read, the mesh is accepted, and its grid is fine enough; or the first of these that fails
+abbrev pub verdict : Files → Job → Result Inputs Refusal
+verdict files job = do
+  raw ← raw_in_file (get files job.mesh)
+  inputs ← accepted_in (field_of job) raw
+  within_grid job.rounds inputs

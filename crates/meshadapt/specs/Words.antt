@@ -5,11 +5,13 @@ use Rattle.std.specs.Str.{bytes_eq}
 use Rattle.ma_text.specs.Numbers as numbers
 use Rattle.size_marks.specs.Field.{Field}
 
--- the file of the mesh, the size of edges, how many rounds are run, and the name under which files are stored
+-- the file of the mesh, the size of edges, how many rounds are run, how many collapse passes and swap passes each has, and the front of the names of what is stored
 pub record Job : Type 0 where
   pub mesh : List ℕ
   pub size : ℕ
   pub rounds : ℕ
+  pub collapses : ℕ
+  pub swaps : ℕ
   pub out : List ℕ
 
 -- the size of edges, which is the same everywhere
@@ -62,4 +64,4 @@ job_of words = do
   collapse ← number_of (codes "--collapse") 0 0 rounds.1
   swap ← number_of (codes "--swap") 0 0 collapse.1
   out ← value_of (codes "--out") swap.1
-  if length out.1 == 0 then Some (record { mesh = mesh.0; size = size.0; rounds = rounds.0; out = out.0 }) else None
+  if length out.1 == 0 then Some (record { mesh = mesh.0; size = size.0; rounds = rounds.0; collapses = collapse.0; swaps = swap.0; out = out.0 }) else None

@@ -2,10 +2,12 @@
 ghost use Rattle.std.specs.Prelude.{◌≡◌, ◌++◌, IfOk, codes, string_bytes};
 ghost use Rattle.msh_read.specs.declared.fault.MshFault.TheVariants.{At};
 ghost use Rattle.meshadapt.specs.declared.status.Refusal.TheVariants.{Accept, Mesh, Rounds};
-ghost use Rattle.meshadapt.specs.Printed.{fault_text, kind_text, mesh_line, read_fault_line, refused_line, round_line, too_many_line, write_fault_line};
+ghost use Rattle.meshadapt.specs.Printed.{fault_text, file_name, kind_text, mesh_line, read_fault_line, refused_line, round_line, too_many_line, usage_line, write_fault_line};
+ghost use Rattle.meshadapt.specs.steps.Running.{asked};
 
 use crate::measures::{tagged_count, worst};
 use crate::status::{FileKind, Refusal};
+use crate::words::Job;
 use ma_cells::Batch;
 use ma_geom::Memory;
 use mesh_check::MeshFault;
@@ -43,6 +45,22 @@ pub fn too_many_line(alloc: Global, round: u32, stage: u32, count: u64) -> Resul
     Ok(format!(in alloc; "too many: round {round} stage {stage} tets {count}\n")?)
 }
 
+/// The line that tells that the words aren't those of a job.
+pub fn usage_line(alloc: Global) -> Result<String, Memory>
+    ensures { IfOk result (λ line. string_bytes line ≡ usage_line) }
+{
+    Ok(String::from_str(alloc, "usage\n")?)
+}
+
+/// The name of a file that is fetched for a job.
+pub fn file_name<'a>(job: &Job<'a>, file: FileKind) -> &'a str
+    ensures { result.now ≡ file_name (asked job.now) file }
+{
+    match file {
+        FileKind::MeshFile => job.mesh,
+    }
+}
+
 /// The name under which the mesh is stored.
 pub fn mesh_name(alloc: Global, out: &str) -> Result<String, Memory>
     ensures { IfOk result (λ name. string_bytes name ≡ out.now ++ codes ".msh") }
@@ -52,10 +70,10 @@ pub fn mesh_name(alloc: Global, out: &str) -> Result<String, Memory>
 
 /// The line that tells which fetch failed.
 #[tactic(auto, unfolding(crate::specs::Printed::read_fault_line))]
-pub fn read_fault_line(alloc: Global, mesh: &str) -> Result<String, Memory>
-    ensures { IfOk result (λ line. string_bytes line ≡ read_fault_line mesh.now) }
+pub fn read_fault_line(alloc: Global, name: &str) -> Result<String, Memory>
+    ensures { IfOk result (λ line. string_bytes line ≡ read_fault_line name.now) }
 {
-    Ok(format!(in alloc; "read fault: {mesh}\n")?)
+    Ok(format!(in alloc; "read fault: {name}\n")?)
 }
 
 /// The line that tells which store failed.

@@ -2,13 +2,15 @@
 //! edges, and writes it in canonical order.
 #![tactic(auto)]
 
-mod adapting;
-mod carrying;
 mod fetching;
+mod halt;
+mod laws;
 mod lines;
 mod measures;
+mod putting;
 mod rounds;
 mod status;
+mod storing;
 #[cfg(test)]
 mod tests;
 mod top;

@@ -1,83 +1,52 @@
 // The rounds of a run, each with its line.
-ghost use Rattle.std.specs.Prelude.{◌≡◌, None, false};
-ghost use Rattle.one_mesh.specs.Refinement.{refine};
+ghost use Rattle.std.specs.Prelude.{◌≡◌, false};
 ghost use Rattle.meshadapt.specs.Printed.{mesh_line, round_line};
-ghost use Rattle.meshadapt.specs.Steps.{Puts, RunsRound, RunsRounds};
+ghost use Rattle.meshadapt.specs.steps.Fetching.{inputs_of};
+ghost use Rattle.meshadapt.specs.steps.Running.{Begins, PutsLine, RunsRound, RunsRounds, asked};
 
+use crate::fetching::Fetched;
+use crate::halt::Halt;
 use crate::lines::{mesh_line, round_line};
+use crate::putting::put_line;
+use crate::words::Job;
 use ma_cells::Batch;
-use ma_geom::Memory;
-use ma_io::{Sink, SinkFault};
+use ma_io::Sink;
 use one_mesh::{OneFault, OneMesh};
 use size_marks::SizeField;
 use std::alloc::Global;
 
-/// Why the rounds of a run weren't all run.
-#[derive(Debug, Drop)]
-pub enum Halt {
-    /// After this stage of this round the mesh has `count` tetrahedra, which is more than 1,000,000.
-    TooMany { round: u32, stage: u32, count: u64 },
-    /// The line of a round couldn't be put.
-    Failed,
-    Memory,
-}
-
 /// Puts the line of a mesh before its rounds, of whose file so many marks were loose.
-pub fn put_mesh<S: Sink>(
-    alloc: Global,
-    mesh: &Batch,
-    loose: u64,
-    out: &mut S,
-) -> Result<(), SinkFault>
-    ensures { Puts result (mesh_line mesh.now loose)
-        (record { files = None; fetch_faults = 0; store_faults = 0; denied = 0; written = S.written out.old; faults = S.faults out.old })
-        (record { files = None; fetch_faults = 0; store_faults = 0; denied = 0; written = S.written out.new; faults = S.faults out.new }) }
+fn put_mesh<S: Sink>(alloc: Global, mesh: &Batch, loose: u64, out: &mut S) -> Result<(), Halt>
+    ensures { PutsLine result (mesh_line mesh.now loose) (S.received out.old) (S.received out.new) }
 {
-    match mesh_line(alloc, mesh, loose) {
-        Ok(line) => match out.put(line.as_bytes()) {
-            Ok(()) => Ok(()),
-            Err(SinkFault::Failed) => Err(SinkFault::Failed),
-            Err(SinkFault::Memory) => Err(SinkFault::Memory),
-        },
-        Err(Memory) => Err(SinkFault::Memory),
-    }
+    let line = mesh_line(alloc, mesh, loose)?;
+    put_line(out, line.as_bytes())
 }
 
 /// Puts the line of a mesh after this round.
-fn put_round<S: Sink>(alloc: Global, round: u32, mesh: &Batch, out: &mut S) -> Result<(), SinkFault>
-    ensures { Puts result (round_line round mesh.now)
-        (record { files = None; fetch_faults = 0; store_faults = 0; denied = 0; written = S.written out.old; faults = S.faults out.old })
-        (record { files = None; fetch_faults = 0; store_faults = 0; denied = 0; written = S.written out.new; faults = S.faults out.new }) }
+fn put_round<S: Sink>(alloc: Global, round: u32, mesh: &Batch, out: &mut S) -> Result<(), Halt>
+    ensures { PutsLine result (round_line round mesh.now) (S.received out.old) (S.received out.new) }
 {
-    match round_line(alloc, round, mesh) {
-        Ok(line) => match out.put(line.as_bytes()) {
-            Ok(()) => Ok(()),
-            Err(SinkFault::Failed) => Err(SinkFault::Failed),
-            Err(SinkFault::Memory) => Err(SinkFault::Memory),
-        },
-        Err(Memory) => Err(SinkFault::Memory),
-    }
+    let line = round_line(alloc, round, mesh)?;
+    put_line(out, line.as_bytes())
 }
 
-/// One round, with its line.
+/// One round of a job, with its line.
 fn run_round<S: Sink>(
     alloc: Global,
     field: &SizeField,
+    job: &Job,
     round: u32,
     mesh: &mut OneMesh,
     out: &mut S,
 ) -> Result<(), Halt>
-    requires { mesh.old.spent ≡ false }
-    ensures { RunsRound result round (refine field.now mesh.old.mesh) mesh.new
-        (record { files = None; fetch_faults = 0; store_faults = 0; denied = 0; written = S.written out.old; faults = S.faults out.old })
-        (record { files = None; fetch_faults = 0; store_faults = 0; denied = 0; written = S.written out.new; faults = S.faults out.new }) }
+    requires spent { mesh.old.spent ≡ false }
+    requires collapses { job.now.collapses ≡ 0 }
+    requires swaps { job.now.swaps ≡ 0 }
+    ensures { RunsRound result round (record { field = field.now; collapses = job.now.collapses; swaps = job.now.swaps }) mesh.old.mesh mesh.new (S.received out.old) (S.received out.new) }
 {
-    match mesh.adapt(alloc, field, round, 0, 0) {
-        Ok(()) => match put_round(alloc, round, mesh.batch(), out) {
-            Ok(()) => Ok(()),
-            Err(SinkFault::Failed) => Err(Halt::Failed),
-            Err(SinkFault::Memory) => Err(Halt::Memory),
-        },
+    match mesh.adapt(alloc, field, round, job.collapses, job.swaps) {
+        Ok(()) => put_round(alloc, round, mesh.batch(), out),
         Err(
             OneFault::Over {
                 round,
@@ -93,21 +62,39 @@ fn run_round<S: Sink>(
     }
 }
 
-/// All rounds from the first on, each with its line.
-pub fn run_rounds<S: Sink>(
+/// All rounds of a job from the first on, each with its line.
+fn run_rounds<S: Sink>(
     alloc: Global,
     field: &SizeField,
-    rounds: u32,
+    job: &Job,
     mesh: &mut OneMesh,
     out: &mut S,
 ) -> Result<(), Halt>
-    requires { mesh.old.spent ≡ false }
-    ensures { RunsRounds result field.now rounds mesh.old.mesh mesh.new
-        (record { files = None; fetch_faults = 0; store_faults = 0; denied = 0; written = S.written out.old; faults = S.faults out.old })
-        (record { files = None; fetch_faults = 0; store_faults = 0; denied = 0; written = S.written out.new; faults = S.faults out.new }) }
+    requires spent { mesh.old.spent ≡ false }
+    requires collapses { job.now.collapses ≡ 0 }
+    requires swaps { job.now.swaps ≡ 0 }
+    ensures { RunsRounds result (record { field = field.now; collapses = job.now.collapses; swaps = job.now.swaps }) job.now.rounds mesh.old.mesh mesh.new (S.received out.old) (S.received out.new) }
 {
-    for done in 0..rounds {
-        run_round(alloc, field, done + 1, mesh, out)?;
+    for done in 0..job.rounds {
+        run_round(alloc, field, job, done + 1, mesh, out)?;
     }
+    Ok(())
+}
+
+/// Puts the line of the mesh, and runs all rounds of the job.
+pub fn adapt_mesh<S: Sink>(
+    alloc: Global,
+    job: &Job,
+    fetched: &mut Fetched,
+    out: &mut S,
+) -> Result<(), Halt>
+    requires spent { fetched.old.mesh.spent ≡ false }
+    requires collapses { job.now.collapses ≡ 0 }
+    requires swaps { job.now.swaps ≡ 0 }
+    ensures begins { Begins result (asked job.now) (inputs_of fetched.old) fetched.new.mesh (S.received out.old) (S.received out.new) }
+    ensures names { fetched.new.names.items ≡ fetched.old.names.items }
+{
+    put_mesh(alloc, fetched.mesh.batch(), fetched.loose, out)?;
+    run_rounds(alloc, &fetched.field, job, &mut fetched.mesh, out)?;
     Ok(())
 }

@@ -16,9 +16,9 @@ const MESH: &str =
 const TETRAHEDRON: &str =
     "$MeshFormat\n2.2 0 8\n$EndMeshFormat\n$Nodes\n4\n1 0 0 0\n2 0 0 8\n3 0 8 0\n4 8 0 0\n$EndNodes\n$Elements\n1\n1 4 2 0 1 1 2 4 3\n$EndElements\n";
 
-/// Two tetrahedra with a node inside of an edge, up to their elements.
-const SPLIT_FRONT: &str =
-    "$MeshFormat\n2.2 0 8\n$EndMeshFormat\n$Nodes\n5\n1 0 0 0\n2 4 0 0\n3 8 0 0\n4 0 8 0\n5 0 0 8\n$EndNodes\n$Elements\n";
+/// Two tetrahedra with a node inside of an edge, on which a line lies.
+const SPLIT: &str =
+    "$MeshFormat\n2.2 0 8\n$EndMeshFormat\n$Nodes\n5\n1 0 0 0\n2 4 0 0\n3 8 0 0\n4 0 8 0\n5 0 0 8\n$EndNodes\n$Elements\n3\n1 1 2 0 5 1 3\n2 4 2 0 1 1 2 4 5\n3 4 2 0 1 2 3 4 5\n$EndElements\n";
 
 const ONE_ROUND: &str = "--plain --mesh m.msh --uniform 4 --rounds 1 --collapse 0 --swap 0 --out x";
 
@@ -112,16 +112,10 @@ fn a_tetrahedron_is_stored_in_canonical_order(rt: HostRuntime) -> Result<(), Fai
 fn other_words_are_answered_with_usage(rt: HostRuntime) -> Result<(), Fail> {
     for words in [
         "",
-        "--plain",
-        "--plain --mesh m.msh --uniform 4 --rounds 0 --collapse 0 --swap 0",
         "--mesh m.msh --plain --uniform 4 --rounds 0 --collapse 0 --swap 0 --out x",
-        "--plain --mesh m.msh --uniform 0 --rounds 0 --collapse 0 --swap 0 --out x",
-        "--plain --mesh m.msh --uniform 1073741825 --rounds 0 --collapse 0 --swap 0 --out x",
         "--plain --mesh m.msh --uniform 99999999999999999999 --rounds 0 --collapse 0 --swap 0 --out x",
-        "--plain --mesh m.msh --uniform +4 --rounds 0 --collapse 0 --swap 0 --out x",
         "--plain --mesh m.msh --uniform 4 --rounds 31 --collapse 0 --swap 0 --out x",
         "--plain --mesh m.msh --uniform 4 --rounds 0 --collapse 0 --swap 0 --out x y",
-        "--plain --mesh m.msh --size 4 --rounds 0 --collapse 0 --swap 0 --out x",
     ] {
         let left = run(&rt, rt.alloc(), words, TETRAHEDRON.as_bytes())?;
         assert_eq!(rt; left.status, Status::Usage, "{words}");
@@ -143,134 +137,46 @@ fn a_mesh_that_is_not_there_is_missing(rt: HostRuntime) -> Result<(), Fail> {
 }
 
 #[test]
-fn a_mesh_past_the_longest_file_is_too_long(rt: HostRuntime) -> Result<(), Fail> {
-    let file = vec![in rt.alloc(); 32u8; 67_108_865]?;
-    let left = run(&rt, rt.alloc(), WORDS, file.as_slice())?;
-    assert_eq!(rt; left.status.code(), 4);
-    assert_eq!(rt; left.sink.bytes(), b"refused: mesh: too long\n".as_slice());
-    assert!(rt; left.stored().is_none());
-    Ok(())
-}
-
-#[test]
-fn a_file_without_a_mesh_is_refused(rt: HostRuntime) -> Result<(), Fail> {
-    for (file, reason) in [
-        (b"".as_slice(), "mesh line 1: no format"),
-        (b"\n".as_slice(), "mesh line 2: no format"),
-        (b"no mesh".as_slice(), "mesh line 1: bad line"),
-        (
-            [0xff, 0x00, 0xc3, 0x28, 0x0a, 0x80].as_slice(),
-            "mesh line 1: bad line",
-        ),
-    ] {
-        is_refused(&rt, rt.alloc(), file, reason)?;
+fn a_file_that_is_cut_after_a_line_is_refused_at_the_next(rt: HostRuntime) -> Result<(), Fail> {
+    let mut front = String::new(rt.alloc());
+    let mut next = 1;
+    for line in MESH.lines() {
+        let missing = match next {
+            1 => "no format",
+            4 => "no nodes",
+            11 => "no elements",
+            _ => "truncated",
+        };
+        let reason = format!(in rt.alloc(); "mesh line {next}: {missing}")?;
+        is_refused(&rt, rt.alloc(), front.as_bytes(), reason.as_str())?;
+        writeln!(front, "{line}")?;
+        next += 1;
     }
+    assert_eq!(rt; next, 15);
     Ok(())
-}
-
-#[test]
-fn a_file_that_ends_too_early_is_refused(rt: HostRuntime) -> Result<(), Fail> {
-    let front = MESH
-        .strip_suffix("1 4 2 0 1 1 2 3 4\n$EndElements\n")
-        .ok_or("another mesh")?;
-    is_refused(&rt, rt.alloc(), front.as_bytes(), "mesh line 13: truncated")
 }
 
 #[test]
 fn the_first_line_that_cannot_be_read_is_told(rt: HostRuntime) -> Result<(), Fail> {
     for (number, line, reason) in [
-        (2, "2.1 0 8", "mesh line 2: other version"),
-        (2, "2.2 1 8", "mesh line 2: binary"),
         (6, "1 1073741825 0 0", "mesh line 6: out of range"),
         (6, "1 12.5 0 0", "mesh line 6: not whole"),
         (6, "1 1e3 0 0", "mesh line 6: not whole"),
-        (7, "1 8 0 0", "mesh line 7: node twice"),
-        (12, "2", "mesh line 14: bad count"),
         (13, "1 11 2 0 1 1 2 3 4", "mesh line 13: element type 11"),
-        (13, "1 4 2 0 1 1 2 3 5", "mesh line 13: no such node"),
     ] {
         let file = with_line(rt.alloc(), number, line)?;
         is_refused(&rt, rt.alloc(), file.as_bytes(), reason)?;
     }
-    Ok(())
-}
-
-#[test]
-fn a_mesh_that_is_none_is_refused(rt: HostRuntime) -> Result<(), Fail> {
-    for (number, line, reason) in [
-        (13, "1 2 2 0 1 1 2 3", "mesh: no tetrahedra"),
-        (9, "4 0 8 0", "mesh: nodes 3 and 4 at one place"),
-        (9, "4 8 8 0", "mesh: tetrahedron 1 flat"),
-        (
-            12,
-            "2\n2 4 2 5 6 4 3 2 1",
-            "mesh: tetrahedra 1 and 2 the same",
-        ),
-    ] {
-        let file = with_line(rt.alloc(), number, line)?;
-        is_refused(&rt, rt.alloc(), file.as_bytes(), reason)?;
-    }
-    Ok(())
-}
-
-#[test]
-fn zeros_may_stand_behind_a_point(rt: HostRuntime) -> Result<(), Fail> {
-    let file = with_line(rt.alloc(), 7, "2 8.000 0 0")?;
-    let left = run(&rt, rt.alloc(), WORDS, file.as_bytes())?;
-    assert_eq!(rt;
-        left.stored().ok_or("nothing stored")?,
-        TETRAHEDRON.as_bytes()
-    );
-    Ok(())
-}
-
-#[test]
-fn names_are_stored(rt: HostRuntime) -> Result<(), Fail> {
-    let names =
-        "$EndMeshFormat\n$PhysicalNames\n2\n3 1 \"wood\"\n1 -5 \"an edge\"\n$EndPhysicalNames";
-    let file = with_line(rt.alloc(), 3, names)?;
-    let left = run(&rt, rt.alloc(), WORDS, file.as_bytes())?;
-    let stored = left.stored().ok_or("nothing stored")?;
-    assert!(rt;
-        stored.starts_with(
-            b"$MeshFormat\n2.2 0 8\n$EndMeshFormat\n$PhysicalNames\n2\n1 -5 \"an edge\"\n3 1 \"wood\"\n$EndPhysicalNames\n$Nodes\n4\n"
-        )
-    );
-    Ok(())
-}
-
-/// Runs no round over two tetrahedra with these elements, which is to put this line of the mesh.
-fn split_run(rt: &impl Abort, alloc: Global, elements: &str, line: &str) -> Result<Left, Fail> {
-    let words = "--plain --mesh m.msh --uniform 64 --rounds 0 --collapse 0 --swap 0 --out x";
-    let file = format!(in alloc; "{SPLIT_FRONT}{elements}$EndElements\n")?;
-    let left = run(rt, alloc, words, file.as_bytes())?;
-    assert!(rt; left.sink.bytes().starts_with(line.as_bytes()));
-    Ok(left)
-}
-
-#[test]
-fn marks_are_kept_on_edges(rt: HostRuntime) -> Result<(), Fail> {
-    let left = split_run(
-        &rt,
-        rt.alloc(),
-        "4\n1 1 2 0 5 1 2\n2 1 2 0 5 2 3\n3 4 2 0 1 1 2 4 5\n4 4 2 0 1 2 3 4 5\n",
-        "mesh: tets 2 nodes 5 marks 2 loose 0\n",
-    )?;
-    let stored = left.stored().ok_or("nothing stored")?;
-    assert!(rt; has_line(stored, b"1 1 2 0 5 1 4"));
-    assert!(rt; has_line(stored, b"2 1 2 0 5 4 5"));
     Ok(())
 }
 
 #[test]
 fn a_line_past_a_node_is_loose(rt: HostRuntime) -> Result<(), Fail> {
-    let left = split_run(
-        &rt,
-        rt.alloc(),
-        "3\n1 1 2 0 5 1 3\n2 4 2 0 1 1 2 4 5\n3 4 2 0 1 2 3 4 5\n",
-        "mesh: tets 2 nodes 5 marks 0 loose 1\n",
-    )?;
-    assert_eq!(rt; left.status.code(), 0);
+    let left = run(&rt, rt.alloc(), WORDS, SPLIT.as_bytes())?;
+    assert_eq!(rt;
+        left.sink.bytes(),
+        b"mesh: tets 2 nodes 5 marks 0 loose 1\ndone: plain\n".as_slice()
+    );
     Ok(())
 }
 
@@ -292,6 +198,12 @@ fn a_fault_ends_the_run_where_it_comes(rt: HostRuntime) -> Result<(), Fail> {
     assert_eq!(rt; first_line.status.code(), 3);
     assert_eq!(rt; first_line.sink.bytes(), b"".as_slice());
     assert!(rt; first_line.stored().is_none());
+    let round_line = run_with(&rt, rt.alloc(), ONE_ROUND, file, (&[], &[], &[2]))?;
+    assert_eq!(rt; round_line.status.code(), 3);
+    assert_eq!(rt;
+        round_line.sink.bytes(),
+        b"mesh: tets 1 nodes 4 marks 0 loose 0\n".as_slice()
+    );
     let last_line = run_with(&rt, rt.alloc(), WORDS, file, (&[], &[], &[2]))?;
     assert_eq!(rt; last_line.status.code(), 3);
     assert_eq!(rt; last_line.stored().ok_or("nothing stored")?, file);
@@ -427,12 +339,10 @@ fn both_sides_of_a_crack_are_bisected_on_their_own(rt: HostRuntime) -> Result<()
         &["1 2 3 4", "1 6 3 5", "6 2 3 5"],
     )?;
     let left = run(&rt, rt.alloc(), ONE_ROUND, otherwise.as_bytes())?;
-    assert!(rt;
-        left.sink.bytes().starts_with(
-            b"mesh: tets 3 nodes 6 marks 0 loose 0\nround 1: tets 24 nodes "
-        )
+    assert_eq!(rt;
+        left.sink.bytes(),
+        b"mesh: tets 3 nodes 6 marks 0 loose 0\nround 1: tets 24 nodes 18 worst 37675151\ndone: plain\n".as_slice()
     );
-    assert_eq!(rt; left.status.code(), 0);
     Ok(())
 }
 
@@ -458,33 +368,17 @@ fn more_rounds_than_the_grid_halves_are_refused(rt: HostRuntime) -> Result<(), F
 fn a_million_tetrahedra_are_too_many(rt: HostRuntime) -> Result<(), Fail> {
     let file = file_of(
         rt.alloc(),
-        &["0 0 0", "256 0 0", "0 256 0", "0 0 256"],
-        &["1 2 3 4"],
+        &["0 0 0", "0 0 64", "64 0 0", "0 64 0", "-64 0 0", "0 -64 0"],
+        &["1 2 3 4", "1 2 4 5", "1 2 5 6", "1 2 6 3"],
     )?;
-    let six = "--plain --mesh m.msh --uniform 1 --rounds 6 --collapse 0 --swap 0 --out x";
-    let left = run(&rt, rt.alloc(), six, file.as_bytes())?;
-    assert_eq!(rt; left.status.code(), 0);
-    assert!(rt; has_line(left.sink.bytes(), b"round 6: tets 262144 nodes "));
-    let seven = "--plain --mesh m.msh --uniform 1 --rounds 7 --collapse 0 --swap 0 --out x";
-    let left = run(&rt, rt.alloc(), seven, file.as_bytes())?;
+    let words = "--plain --mesh m.msh --uniform 1 --rounds 6 --collapse 0 --swap 0 --out x";
+    let left = run(&rt, rt.alloc(), words, file.as_bytes())?;
     assert_eq!(rt; left.status.code(), 5);
+    assert!(rt; has_line(left.sink.bytes(), b"round 5: tets 131072 nodes "));
     assert!(rt;
         left.sink
             .bytes()
-            .ends_with(b"\ntoo many: round 7 stage 0 tets 2097152\n")
-    );
-    assert!(rt; left.stored().is_none());
-    Ok(())
-}
-
-#[test]
-fn a_line_of_a_round_that_cannot_be_put_ends_the_run(rt: HostRuntime) -> Result<(), Fail> {
-    let file = TETRAHEDRON.as_bytes();
-    let left = run_with(&rt, rt.alloc(), ONE_ROUND, file, (&[], &[], &[2]))?;
-    assert_eq!(rt; left.status.code(), 3);
-    assert_eq!(rt;
-        left.sink.bytes(),
-        b"mesh: tets 1 nodes 4 marks 0 loose 0\n".as_slice()
+            .ends_with(b"\ntoo many: round 6 stage 0 tets 1048576\n")
     );
     assert!(rt; left.stored().is_none());
     Ok(())

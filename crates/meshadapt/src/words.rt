@@ -3,6 +3,7 @@ ghost use Rattle.std.specs.Prelude.{◌≡◌, ◌≤◌, ◌^◌, IfSome, map, 
 ghost use Rattle.std.specs.Option.{option_map};
 ghost use Rattle.size_marks.specs.Field.{is_size};
 ghost use Rattle.meshadapt.specs.Words.{after_flag, in_range, job_of, number_in, number_of, value_of};
+ghost use Rattle.meshadapt.specs.steps.Running.{asked};
 
 use ma_text::magnitude;
 
@@ -15,6 +16,10 @@ pub struct Job<'a> {
     pub size: u32,
     /// How many rounds are run, at most 30.
     pub rounds: u32,
+    /// How many collapse passes a round has.
+    pub collapses: u32,
+    /// How many swap passes it has.
+    pub swaps: u32,
     /// The front of the names of what is stored.
     pub out: &'a str,
 }
@@ -84,21 +89,25 @@ fn number_of<'a>(
 /// The job that the words ask for. None where they aren't of the one form, in its order.
 #[tactic(auto, unfolding(crate::specs::Words::job_of))]
 pub fn job_of<'a>(words: &'a [String]) -> Option<Job<'a>>
-    ensures value { option_map (λ job. record { mesh = job.mesh.now; size = job.size; rounds = job.rounds; out = job.out.now }) result ≡ job_of (map string_bytes words.now) }
+    ensures value { option_map (λ job. asked job) result ≡ job_of (map string_bytes words.now) }
     ensures size { IfSome result (λ job. is_size job.size ≡ true) }
+    // There are no passes yet.
+    ensures passes { IfSome result (λ job. (job.collapses ≡ 0) × (job.swaps ≡ 0)) }
 {
     let options = after_flag("--plain", words)?;
     let (mesh, options) = value_of("--mesh", options)?;
     let (size, options) = number_of("--uniform", 1, 1 << 30, options)?;
     let (rounds, options) = number_of("--rounds", 0, 30, options)?;
-    let (_collapse, options) = number_of("--collapse", 0, 0, options)?;
-    let (_swap, options) = number_of("--swap", 0, 0, options)?;
+    let (collapses, options) = number_of("--collapse", 0, 0, options)?;
+    let (swaps, options) = number_of("--swap", 0, 0, options)?;
     let (out, options) = value_of("--out", options)?;
     if options.is_empty() {
         Some(Job {
             mesh,
             size,
             rounds,
+            collapses,
+            swaps,
             out,
         })
     } else {

@@ -20,7 +20,7 @@ use Rattle.ma_cells.proofs.Choices.{choices-ascend}
 use Rattle.ma_cells.proofs.Corners.{corners_rise}
 use Rattle.ma_cover.specs.Cover.{whole_cover}
 use Rattle.ma_cover.specs.Inside.{is_inside}
-use Rattle.ma_cover.specs.OnFaces.{IsOffFacesOf}
+use Rattle.ma_cover.specs.OnFaces.{IsOffFaces, IsOffFacesOf}
 use Rattle.ma_cover.proofs.Covers.{bisect_inside}
 use Rattle.ma_cells.proofs.Pieces.{pieces_are_corners}
 use Rattle.ma_cover.proofs.WholeFaces.{off_pieces_is_off_whole}
@@ -28,13 +28,13 @@ use Rattle.size_marks.specs.Field.{Field}
 use Rattle.split_templates.specs.Edges.{edge_cmp, is_long_edge}
 use Rattle.split_templates.specs.Pieces.{bisected_along, halves, halves_at, pieces_of}
 use Rattle.split_templates.proofs.Middles.{midpoint-IsMiddle}
-use Rattle.one_mesh.specs.Adaptation.{adapted}
-use Rattle.one_mesh.specs.Laws.{KeepsCover}
+use Rattle.one_mesh.specs.Adaptation.{Plan, adapted, last_stage, staged}
+use Rattle.one_mesh.specs.Laws.{KeepsCover, RefinementKeepsCover, RefinementKeepsFaces, RoundsKeepCover}
 use Rattle.one_mesh.specs.Refinement.{long_edges, refine, refined_tet}
 use Rattle.one_mesh.proofs.Counts.{all_of_map, count-map, count-none, count-weaker}
 use Rattle.ma_cells.proofs.Passing.{all-filter, all-map, all_pass}
-use Rattle.one_mesh.proofs.Solid.{rounds_are_solid}
-use Rattle.one_mesh.proofs.Keeping.{Keeps, as_few, keeps-each, keeps-itself, keeps-set, keeps-then}
+use Rattle.one_mesh.proofs.NotFlat.{rounds_are_not_flat}
+use Rattle.one_mesh.proofs.Keeping.{Keeps, as_few, keeps-each, keeps-itself, keeps-next, keeps-set}
 use Rattle.ma_cells.proofs.SetItems.{all-ascending_of}
 
 -- ---- edges with their ends in ascending order
@@ -70,7 +70,7 @@ module _ (p : Rational) where
             let middle = midpoint-IsMiddle a b m is in
             let differ = ends_differ a b rises in
             record {
-              solid = all_pass are_corners (bisect a b m corners) (pieces_are_corners m a b corners middle differ are);
+              not_flat = all_pass are_corners (bisect a b m corners) (pieces_are_corners m a b corners middle differ are);
               off = λ off. (off_pieces_is_off_whole p m a b corners middle differ are off, tt);
               count = λ _ off. bisect_inside p m a b corners middle differ are off;
             }
@@ -84,7 +84,7 @@ module _ (p : Rational) where
   bisected_keep (edge ∷ edges) rise cells are =
       let parts = flat_map (halves edge) cells in
       let first : KeepsInside cells parts = keeps-each AreCorners (IsOffFacesOf p) (is_inside p) (halves edge) (halves_keep edge rise.0) cells are in
-      keeps-then AreCorners (IsOffFacesOf p) (is_inside p) cells parts (bisected_along edges parts) first (bisected_keep edges rise.1 parts first.solid)
+      keeps-next AreCorners (IsOffFacesOf p) (is_inside p) cells parts (bisected_along edges parts) first (bisected_keep edges rise.1 parts first.not_flat)
 
   pieces_keep : (marked : List (List Coordinates)) → AllByRecursion Rises marked → (corners : List Coordinates) → AreCorners corners
       → KeepsInside (corners ∷ []) (pieces_of marked corners)
@@ -97,8 +97,8 @@ module _ (p : Rational) where
 abbrev with_corners : Tetrahedron → List Coordinates → Tetrahedron
 with_corners tet corners = record tet { corners = corners }
 
-abbrev IsSolid : Tetrahedron → Type 0
-IsSolid tet = are_corners tet.corners ≡ true
+abbrev IsNotFlat : Tetrahedron → Type 0
+IsNotFlat tet = are_corners tet.corners ≡ true
 
 abbrev IsOff : Rational → Tetrahedron → Type 0
 IsOff p tet = IsOffFacesOf p tet.corners
@@ -113,7 +113,7 @@ at_most_one false = omega arith
 
 module _ (g : ℤ → ℤ → Bool) (p : Rational) where
   abbrev KeepsPassing : List Tetrahedron → List Tetrahedron → Type 0
-  KeepsPassing = Keeps IsSolid (IsOff p) (passes g p)
+  KeepsPassing = Keeps IsNotFlat (IsOff p) (passes g p)
 
   -- where the region is of no matter, or not the one that is asked for
   region_count : (b : Bool) (corners : List Coordinates) (pieces : List (List Coordinates)) → count_by (is_inside p) pieces ≡ count_by (is_inside p) (corners ∷ [])
@@ -123,14 +123,14 @@ module _ (g : ℤ → ℤ → Bool) (p : Rational) where
 
   tets_keep : (tet : Tetrahedron) (pieces : List (List Coordinates)) → KeepsInside p (tet.corners ∷ []) pieces → KeepsPassing (tet ∷ []) (map (with_corners tet) pieces)
   tets_keep tet pieces kept = record {
-    solid = all-map AreCorners IsSolid (with_corners tet) (λ _ are. are) pieces kept.solid;
+    not_flat = all-map AreCorners IsNotFlat (with_corners tet) (λ _ are. are) pieces kept.not_flat;
     off = λ off. kept.off (all_of_map (IsOff p) (with_corners tet) pieces off);
     count = λ _ off.
         count-map (passes g p) (with_corners tet) pieces
         ∙ region_count (g tet.phys tet.elem) tet.corners pieces (kept.count (at_most_one (is_inside p tet.corners)) (all_of_map (IsOff p) (with_corners tet) pieces off));
   }
 
-  refined_keep : (field : Field) (tet : Tetrahedron) → IsSolid tet → KeepsPassing (tet ∷ []) (refined_tet field tet)
+  refined_keep : (field : Field) (tet : Tetrahedron) → IsNotFlat tet → KeepsPassing (tet ∷ []) (refined_tet field tet)
   refined_keep field tet are =
       let marked = long_edges field tet.corners in
       tets_keep tet (pieces_of marked tet.corners) (pieces_keep p marked (long_edges_rise field tet.corners are) tet.corners are)
@@ -138,8 +138,8 @@ module _ (g : ℤ → ℤ → Bool) (p : Rational) where
   -- ---- a mesh
   mesh_keep : (field : Field) (mesh : Batch) → are_tetrahedra mesh.tets ≡ true → KeepsPassing mesh.tets (refine field mesh).tets
   mesh_keep field mesh are =
-      keeps-set IsSolid (IsOff p) (passes g p) tet_cmp-IsAntisymmetric mesh.tets (flat_map (refined_tet field) mesh.tets)
-      (keeps-each IsSolid (IsOff p) (passes g p) (refined_tet field) (refined_keep field) mesh.tets (all_pass (λ tet. are_corners tet.corners) mesh.tets are))
+      keeps-set IsNotFlat (IsOff p) (passes g p) tet_cmp-IsAntisymmetric mesh.tets (flat_map (refined_tet field) mesh.tets)
+      (keeps-each IsNotFlat (IsOff p) (passes g p) (refined_tet field) (refined_keep field) mesh.tets (all_pass (λ tet. are_corners tet.corners) mesh.tets are))
 
   -- a region has no more tetrahedra with the point within them than all have
   fewer : (tets : List Tetrahedron) → count_by (λ tet. is_inside p tet.corners) tets ≤ 1 → count_by (passes g p) tets ≤ 1
@@ -150,31 +150,41 @@ module _ (g : ℤ → ℤ → Bool) (p : Rational) where
       second false t h = absurd (false≢true h)
 
 -- ---- as the laws say it
-pub refinement_keeps_cover : (field : Field) (mesh : Batch) → are_tetrahedra mesh.tets ≡ true → KeepsCover mesh (refine field mesh)
-refinement_keeps_cover field mesh are = record {
-  off_faces = λ p. (mesh_keep (λ _ _. true) p field mesh are).off;
-  each = λ phys elem p off most.
+pub refinement_keeps_faces : RefinementKeepsFaces
+refinement_keeps_faces field mesh p are = (mesh_keep (λ _ _. true) p field mesh are).off
+
+pub refinement_keeps_cover : RefinementKeepsCover
+refinement_keeps_cover field mesh are p old_off off most = record {
+  each = λ phys elem.
       let g = λ (u v : ℤ). int_eq u phys && int_eq v elem in
       (mesh_keep g p field mesh are).count (fewer g p mesh.tets most) off;
-  whole = λ p off most. (mesh_keep (λ _ _. true) p field mesh are).count most off;
+  whole = (mesh_keep (λ _ _. true) p field mesh are).count most off;
 }
 
--- ---- rounds
-pub keeps_cover-then : (l m n : Batch) → KeepsCover l m → KeepsCover m n → KeepsCover l n
-keeps_cover-then l m n first second = record {
-  off_faces = λ p off. first.off_faces p (second.off_faces p off);
-  each = λ phys elem p off most.
-      let between = second.off_faces p off in
-      second.each phys elem p off (as_few (whole_cover p m.tets) (whole_cover p l.tets) (first.whole p between most) most) ∙ first.each phys elem p between most;
-  whole = λ p off most.
-      let between = second.off_faces p off in
-      let same = first.whole p between most in
-      second.whole p off (as_few (whole_cover p m.tets) (whole_cover p l.tets) same most) ∙ same;
+-- ---- stages and rounds, whose faces make up those of the mesh before
+pub record KeepsCoverAndFaces (m n : Batch) : Type 0 where
+  pub faces : (p : Rational) → IsOffFaces p n.tets → IsOffFaces p m.tets
+  pub covers : KeepsCover m n
+
+keeps-then : (l m n : Batch) → KeepsCoverAndFaces l m → KeepsCoverAndFaces m n → KeepsCoverAndFaces l n
+keeps-then l m n first second = record {
+  faces = λ p off. first.faces p (second.faces p off);
+  covers = λ p old_off off most.
+      let between = second.faces p off in
+      let before = first.covers p old_off between most in
+      let after = second.covers p between off (as_few (whole_cover p m.tets) (whole_cover p l.tets) before.whole most) in
+      record { each = λ phys elem. after.each phys elem ∙ before.each phys elem; whole = after.whole ∙ before.whole };
 }
 
-pub rounds_keep_cover : (rounds : ℕ) (field : Field) (mesh : Batch) → are_tetrahedra mesh.tets ≡ true → KeepsCover mesh (adapted field rounds mesh)
-rounds_keep_cover zero field mesh are = record { off_faces = λ p off. off; each = λ phys elem p off most. refl; whole = λ p off most. refl }
-rounds_keep_cover (suc rounds) field mesh are =
-    let before = adapted field rounds mesh in
-    keeps_cover-then mesh before (refine field before) (rounds_keep_cover rounds field mesh are)
-    (refinement_keeps_cover field before (rounds_are_solid rounds field mesh are))
+stages_keep : (stage : ℕ) (plan : Plan) (mesh : Batch) → are_tetrahedra mesh.tets ≡ true → KeepsCoverAndFaces mesh (staged plan stage mesh)
+stages_keep zero plan mesh are = record { faces = λ p. refinement_keeps_faces plan.field mesh p are; covers = refinement_keeps_cover plan.field mesh are }
+stages_keep (suc stage) plan mesh are = stages_keep stage plan mesh are
+
+rounds_keep : (rounds : ℕ) (plan : Plan) (mesh : Batch) → are_tetrahedra mesh.tets ≡ true → KeepsCoverAndFaces mesh (adapted plan rounds mesh)
+rounds_keep zero plan mesh are = record { faces = λ p off. off; covers = λ p old_off off most. record { each = λ phys elem. refl; whole = refl } }
+rounds_keep (suc rounds) plan mesh are =
+    let before = adapted plan rounds mesh in
+    keeps-then mesh before (staged plan (last_stage plan) before) (rounds_keep rounds plan mesh are) (stages_keep (last_stage plan) plan before (rounds_are_not_flat rounds plan mesh are))
+
+pub rounds_keep_cover : RoundsKeepCover
+rounds_keep_cover rounds plan mesh are = (rounds_keep rounds plan mesh are).covers

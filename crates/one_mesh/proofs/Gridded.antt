@@ -12,6 +12,7 @@ use Rattle.ma_cells.specs.Bisection.{bisect, replaced}
 use Rattle.ma_cells.specs.Cells.{CellMark, corners_of, mark_cmp}
 use Rattle.ma_cells.specs.Faces.{edges_of, holds_all}
 use Rattle.ma_cells.specs.Tetrahedron.{Tetrahedron, tet_cmp}
+use Rattle.ma_cells.specs.declared.batch.Batch.{Batch}
 use Rattle.ma_cells.specs.declared.cell.Cell.{Cell}
 use Rattle.ma_cells.specs.declared.cell.Cell.TheVariants.{Point, Seg, Tri}
 use Rattle.ma_cells.proofs.Choices.{all-choices}
@@ -19,7 +20,7 @@ use Rattle.size_marks.specs.Field.{Field}
 use Rattle.split_templates.specs.Edges.{edge_cmp, is_long_edge}
 use Rattle.split_templates.specs.Pieces.{bisected_along, halves, halves_at, is_straight, pieces_of}
 use Rattle.split_templates.proofs.Middles.{midpoint-IsMiddle}
-use Rattle.one_mesh.specs.Adaptation.{adapted}
+use Rattle.one_mesh.specs.Adaptation.{Plan, adapted, last_stage, staged}
 use Rattle.ma_cells.specs.Grid.{are_on_grid, is_multiple, is_on_grid, marks_are_on_grid, mesh_is_on_grid}
 use Rattle.one_mesh.specs.Laws.{RefinementHalvesTheGrid, RoundsHalveTheGrid}
 use Rattle.one_mesh.specs.Refinement.{long_edges, refine, refined_cell, refined_mark, refined_tet}
@@ -164,13 +165,17 @@ refinement_halves_the_grid k field mesh h =
     let refined = refine field mesh in
     and_from (are_on_grid k refined.tets) (marks_are_on_grid k refined.marks) (refined_tets_on k field mesh.tets both.0) (refined_marks_on k field mesh.marks both.1)
 
+stages_halve_the_grid : (stage k : ℕ) (plan : Plan) (mesh : Batch) → mesh_is_on_grid (suc k) mesh ≡ true → mesh_is_on_grid k (staged plan stage mesh) ≡ true
+stages_halve_the_grid zero k plan mesh h = refinement_halves_the_grid k plan.field mesh h
+stages_halve_the_grid (suc stage) k plan mesh h = stages_halve_the_grid stage k plan mesh h
+
 one_finer : (k rounds : ℕ) → k + suc rounds ≡ suc k + rounds
 one_finer k rounds = omega arith
 
 pub rounds_halve_the_grid : RoundsHalveTheGrid
-rounds_halve_the_grid k zero field mesh h = subst (λ n. mesh_is_on_grid n mesh ≡ true) (without k) h
+rounds_halve_the_grid k zero plan mesh h = subst (λ n. mesh_is_on_grid n mesh ≡ true) (without k) h
   where
     without : (k : ℕ) → k + 0 ≡ k
     without k = omega arith
-rounds_halve_the_grid k (suc rounds) field mesh h =
-    refinement_halves_the_grid k field (adapted field rounds mesh) (rounds_halve_the_grid (suc k) rounds field mesh (subst (λ n. mesh_is_on_grid n mesh ≡ true) (one_finer k rounds) h))
+rounds_halve_the_grid k (suc rounds) plan mesh h =
+    stages_halve_the_grid (last_stage plan) k plan (adapted plan rounds mesh) (rounds_halve_the_grid (suc k) rounds plan mesh (subst (λ n. mesh_is_on_grid n mesh ≡ true) (one_finer k rounds) h))

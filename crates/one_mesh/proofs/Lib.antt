@@ -1,6 +1,6 @@
 pub mod Rising
 pub mod Marked
-pub mod Solid
+pub mod NotFlat
 pub mod Multiples
 pub mod Gridded
 pub mod Counts

@@ -1,26 +1,55 @@
--- Rounds of adaptation, and how many tetrahedra a mesh may have.
-use Rattle.std.specs.Prelude.{◌≡◌, ℕ, zero, suc, ◌≤◌, ◌<◌, length}
+-- Plans, rounds of adaptation by a plan, and how many tetrahedra a mesh may have.
+use Rattle.std.specs.Prelude.{◌≡◌, ℕ, zero, suc, ◌+◌, ◌-◌, ◌≤◌, ◌<◌, length}
 use Rattle.ma_cells.specs.declared.batch.Batch.{Batch}
 use Rattle.size_marks.specs.Field.{Field}
 use Rattle.one_mesh.specs.Refinement.{refine}
 
+-- the size of edges, and how many collapse passes and swap passes a round has
+pub record Plan : Type 0 where
+  pub field : Field
+  pub collapses : ℕ
+  pub swaps : ℕ
+
 -- how many tetrahedra a mesh may have after a stage
-abbrev pub most_tets : ℕ
-most_tets = 1000000
+abbrev pub most_adapted_tets : ℕ
+most_adapted_tets = 1000000
 
--- the mesh after so many rounds. Each round refines the mesh, and has no further stage yet
-abbrev pub adapted : Field → ℕ → Batch → Batch
-adapted field zero mesh = mesh
-adapted field (suc round) mesh = refine field (adapted field round mesh)
+-- a round refines the mesh in stage 0, and has a stage for each pass
+abbrev pub last_stage : Plan → ℕ
+last_stage plan = plan.collapses + plan.swaps
 
--- no mesh after one of so many rounds is past the limit
-abbrev pub StaysWithin : Field → ℕ → Batch → Type 0
-StaysWithin field rounds mesh = (round : ℕ) → 1 ≤ round → round ≤ rounds → length (adapted field round mesh).tets ≤ most_tets
+-- the mesh after this stage of a round that starts with a mesh. There are no passes yet, and no plan asks for one
+abbrev pub staged : Plan → ℕ → Batch → Batch
+staged plan zero mesh = refine plan.field mesh
+staged plan (suc stage) mesh = staged plan stage mesh
 
--- of so many rounds, this one is the first after which the mesh is past the limit, with this many tetrahedra
-pub record IsFirstPast (field : Field) (rounds : ℕ) (mesh : Batch) (round count : ℕ) : Type 0 where
+-- the mesh after so many rounds
+abbrev pub adapted : Plan → ℕ → Batch → Batch
+adapted plan zero mesh = mesh
+adapted plan (suc round) mesh = staged plan (last_stage plan) (adapted plan round mesh)
+
+-- the mesh after this stage of this round, counted from 1
+abbrev pub after_stage : Plan → ℕ → ℕ → Batch → Batch
+after_stage plan round stage mesh = staged plan stage (adapted plan (round - 1) mesh)
+
+-- no stage of a round that starts with this mesh is past the limit
+abbrev pub RoundStaysWithin : Plan → Batch → Type 0
+RoundStaysWithin plan mesh = (stage : ℕ) → stage ≤ last_stage plan → length (staged plan stage mesh).tets ≤ most_adapted_tets
+
+-- no stage of one of so many rounds is past the limit
+abbrev pub StaysWithin : Plan → ℕ → Batch → Type 0
+StaysWithin plan rounds mesh = (round stage : ℕ) → 1 ≤ round → round ≤ rounds → stage ≤ last_stage plan → length (after_stage plan round stage mesh).tets ≤ most_adapted_tets
+
+-- of a round that starts with this mesh, this stage is the first after which it is past the limit, with this many tetrahedra
+pub record IsFirstStagePast (plan : Plan) (mesh : Batch) (stage count : ℕ) : Type 0 where
+  pub stage_is : stage ≤ last_stage plan
+  pub count_is : count ≡ length (staged plan stage mesh).tets
+  pub past : most_adapted_tets < count
+  pub earlier : (earlier : ℕ) → earlier < stage → length (staged plan earlier mesh).tets ≤ most_adapted_tets
+
+-- of so many rounds, this one is the first with such a stage
+pub record IsFirstPast (plan : Plan) (rounds : ℕ) (mesh : Batch) (round stage count : ℕ) : Type 0 where
   pub least : 1 ≤ round
   pub greatest : round ≤ rounds
-  pub count_is : count ≡ length (adapted field round mesh).tets
-  pub past : most_tets < count
-  pub before : (earlier : ℕ) → 1 ≤ earlier → earlier < round → length (adapted field earlier mesh).tets ≤ most_tets
+  pub in_round : IsFirstStagePast plan (adapted plan (round - 1) mesh) stage count
+  pub before : StaysWithin plan (round - 1) mesh

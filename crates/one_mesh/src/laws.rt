@@ -1,14 +1,19 @@
-//! Laws of refinement, each the contract of a function that does nothing.
-ghost use Rattle.one_mesh.specs.Laws.{RefinementHalvesTheGrid, RefinementIsSolid, RefinementKeepsCover, RoundsAreSolid, RoundsHalveTheGrid, RoundsKeepCover};
+//! Laws of refinement and of rounds, each the contract of a function that does nothing.
+ghost use Rattle.one_mesh.specs.Laws.{RefinementHalvesTheGrid, RefinementIsNotFlat, RefinementKeepsCover, RefinementKeepsFaces, RoundsAreNotFlat, RoundsHalveTheGrid, RoundsKeepCover};
 
 /// A refined mesh has no flat tetrahedron.
-pub fn refinement_is_solid()
-    ensures { RefinementIsSolid }
+pub fn refinement_is_not_flat()
+    ensures { RefinementIsNotFlat }
 {}
 
 /// Refinement keeps the cover of each region.
 pub fn refinement_keeps_cover()
     ensures { RefinementKeepsCover }
+{}
+
+/// The faces of a refined mesh make up those of the mesh, and others.
+pub fn refinement_keeps_faces()
+    ensures { RefinementKeepsFaces }
 {}
 
 /// Refinement takes a mesh from one grid to the next finer one.
@@ -17,8 +22,8 @@ pub fn refinement_halves_the_grid()
 {}
 
 /// After any number of rounds no tetrahedron is flat.
-pub fn rounds_are_solid()
-    ensures { RoundsAreSolid }
+pub fn rounds_are_not_flat()
+    ensures { RoundsAreNotFlat }
 {}
 
 /// Any number of rounds keeps the cover of each region.

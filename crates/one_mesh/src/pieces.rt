@@ -17,7 +17,7 @@ use std::alloc::Global;
 /// The tetrahedra in a list of their own.
 pub(crate) fn copied(alloc: Global, tets: &[Tet]) -> Result<Vec<Tet>, Memory>
     ensures items { IfOk result (λ copies. copies.items ≡ tets.now) }
-    ensures solid { IfOk result (λ copies. are_tetrahedra copies.items ≡ true) }
+    ensures not_flat { IfOk result (λ copies. are_tetrahedra copies.items ≡ true) }
 {
     let mut copies = Vec::with_capacity(alloc, tets.len())?;
     for tet in tets {

@@ -17,7 +17,7 @@ use std::alloc::Global;
 use std::marker::Model;
 
 /// How many tetrahedra a mesh may have after a stage.
-const MOST_TETS: usize = 1_000_000;
+const MOST_ADAPTED_TETS: usize = 1_000_000;
 
 /// A mesh that is adapted round by round. A round that is refused leaves it spent.
 #[derive(Debug, Drop)]
@@ -66,7 +66,7 @@ impl OneMesh {
     /// The mesh as it stands. Takes no memory.
     pub fn batch(&self) -> &Batch
         ensures value { result.now ≡ self.now.mesh }
-        ensures solid { are_tetrahedra result.now.tets ≡ true }
+        ensures not_flat { are_tetrahedra result.now.tets ≡ true }
     {
         &self.mesh
     }
@@ -85,7 +85,7 @@ impl OneMesh {
         ensures value { OnOk result (self.new ≡ record { mesh = refine field.now self.old.mesh; spent = false }) }
         ensures err { OnErr result (self.new ≡ self.old) }
         ensures cover { OnOk result (KeepsCover self.old.mesh self.new.mesh) }
-        ensures solid { are_tetrahedra self.new.mesh.tets ≡ true }
+        ensures not_flat { are_tetrahedra self.new.mesh.tets ≡ true }
         ensures grid { OnOk result ((k : ℕ) → mesh_is_on_grid (suc k) self.old.mesh ≡ true → mesh_is_on_grid k self.new.mesh ≡ true) }
     {
         self.mesh = refined(alloc, &self.mesh, field)?;
@@ -106,12 +106,12 @@ impl OneMesh {
         requires spent { self.old.spent ≡ false }
         requires collapse { collapse ≡ 0 }
         requires swap { swap ≡ 0 }
-        ensures { EndsRound result round (refine field.now self.old.mesh) self.new }
+        ensures { EndsRound result round (record { field = field.now; collapses = collapse; swaps = swap }) self.old.mesh self.new }
     {
         match self.refine(alloc, field) {
             Ok(()) => {
                 let count = self.mesh.tets.len();
-                if count > MOST_TETS {
+                if count > MOST_ADAPTED_TETS {
                     self.spent = true;
                     Err(OneFault::Over {
                         round,

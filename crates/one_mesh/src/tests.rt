@@ -91,6 +91,17 @@ fn a_round_cuts_a_tetrahedron_into_eight(rt: HostRuntime) -> Result<(), Fail> {
 }
 
 #[test]
+fn two_rounds_cut_each_of_the_eight_into_eight(rt: HostRuntime) -> Result<(), Fail> {
+    let mut one = mesh_with(rt.alloc(), Vec::new(rt.alloc()))?;
+    let field = SizeField::uniform(rt.alloc(), 2);
+    one.adapt(rt.alloc(), &field, 1, 0, 0)?;
+    assert!(rt; !one.is_spent());
+    one.adapt(rt.alloc(), &field, 2, 0, 0)?;
+    assert_eq!(rt; one.batch().tets.len(), 64);
+    Ok(())
+}
+
+#[test]
 fn marks_are_cut_with_the_tetrahedron_but_no_triangle_on_one_line(
     rt: HostRuntime,
 ) -> Result<(), Fail> {

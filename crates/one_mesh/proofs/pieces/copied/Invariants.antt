@@ -5,5 +5,5 @@ use Rattle.one_mesh.proofs.pieces.copied.Given as goal
 abbrev pub invariant-loop-tet : goal.invariant-loop-tet
 invariant-loop-tet l = record {
   items : l.copies.items ≡ take l.tet-index l.tets;
-  solid : are_tetrahedra l.copies.items ≡ true;
+  not_flat : are_tetrahedra l.copies.items ≡ true;
 }

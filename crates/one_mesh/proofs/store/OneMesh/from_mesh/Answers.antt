@@ -15,6 +15,6 @@ returns c =
 pub invariant_of-result : goal.invariant_of-result
 invariant_of-result c =
     let tets = c.gather.ensures.is tet_cmp-IsAntisymmetric in
-    let all = all_pass (λ tet. are_corners tet.corners) c.in_ok-tets.tets.items c.in_ok-tets.ensures.solid in
+    let all = all_pass (λ tet. are_corners tet.corners) c.in_ok-tets.tets.items c.in_ok-tets.ensures.not_flat in
     ap are_tetrahedra tets
     ∙ test_all (λ tet. are_corners tet.corners) (ascending_of tet_cmp c.in_ok-tets.tets.items) (all-ascending_of tet_cmp (λ tet. are_corners tet.corners ≡ true) c.in_ok-tets.tets.items all)

@@ -6,12 +6,12 @@ use Rattle.ma_cells.specs.Tetrahedron.{are_tetrahedra}
 use Rattle.one_mesh.specs.Laws.{KeepsCover}
 use Rattle.one_mesh.proofs.Covered.{refinement_keeps_cover}
 use Rattle.one_mesh.proofs.Gridded.{refinement_halves_the_grid}
-use Rattle.one_mesh.proofs.Solid.{refinement_is_solid}
+use Rattle.one_mesh.proofs.NotFlat.{refinement_is_not_flat}
 use Rattle.one_mesh.proofs.store.OneMesh.refine.Goals as goal
 
 pub invariant_of-self : goal.invariant_of-self
 invariant_of-self c =
-    subst (λ (mesh : Batch). are_tetrahedra mesh.tets ≡ true) (sym c.in_ok-self-inside.ensures) (refinement_is_solid c.args.field.now c.self.inside.mesh c.self.invariant)
+    subst (λ (mesh : Batch). are_tetrahedra mesh.tets ≡ true) (sym c.in_ok-self-inside.ensures) (refinement_is_not_flat c.args.field.now c.self.inside.mesh c.self.invariant)
 
 pub returns-clause-cover : goal.returns-clause-cover
 returns-clause-cover c =
@@ -19,9 +19,9 @@ returns-clause-cover c =
     subst (λ (mesh : Batch). KeepsCover mesh c.in_ok-self-inside.field-0) old
     (subst (λ (mesh : Batch). KeepsCover c.self.inside.mesh mesh) (sym c.in_ok-self-inside.ensures) (refinement_keeps_cover c.args.field.now c.self.inside.mesh c.self.invariant))
 
-pub returns-clause-solid : goal.returns-clause-solid
-returns-clause-solid c =
-    subst (λ (mesh : Batch). are_tetrahedra mesh.tets ≡ true) (sym c.in_ok-self-inside.ensures) (refinement_is_solid c.args.field.now c.self.inside.mesh c.self.invariant)
+pub returns-clause-not_flat : goal.returns-clause-not_flat
+returns-clause-not_flat c =
+    subst (λ (mesh : Batch). are_tetrahedra mesh.tets ≡ true) (sym c.in_ok-self-inside.ensures) (refinement_is_not_flat c.args.field.now c.self.inside.mesh c.self.invariant)
 
 pub returns-clause-grid : goal.returns-clause-grid
 returns-clause-grid c k on =
