@@ -1,11 +1,9 @@
 -- The mesh of an accepted job has tetrahedra that aren't flat, its marks are on its grid, and its rounds keep its geometry; so does the mesh whose text a run that is done has stored.
-use Rattle.std.proofs.Common.{◌≡◌, ℕ, ◌+◌, ◌-◌, ◌≤◌, true, false, cond, List, [], ◌∷◌, Some, None, refl, sym, subst, arith}
+use Rattle.std.proofs.Common.{◌≡◌, ℕ, ◌+◌, ◌-◌, ◌≤◌, Bool, true, false, cond, List, [], ◌∷◌, Some, None, refl, sym, subst, arith}
 use Rattle.std.specs.Prelude.{IfSome, Option, Result, Ok, Err, nat_le}
 use Rattle.std.specs.FinMap.{get, insert}
-use Rattle.std.specs.List.{AllByRecursion, list_all}
+use Rattle.std.specs.List.{list_all}
 use Rattle.std.proofs.lemmas.Bool.Decides.{nat_tests}
-use Rattle.ma_geom.specs.Coordinates.{Coordinates}
-use Rattle.ma_cells.specs.Cells.{CellMark, corners_of}
 use Rattle.ma_cells.specs.Meshes.{MarkedMesh}
 use Rattle.ma_cells.specs.Tetrahedron.{Tetrahedron, are_corners, tet_cmp, are_tetrahedra}
 use Rattle.ma_cells.specs.Ascending.{ascending_of}
@@ -25,7 +23,7 @@ use Rattle.ma_cells.proofs.Permutations.{listed_once-permutes}
 use Rattle.one_mesh.proofs.Keeping.{as_few}
 use Rattle.one_mesh.proofs.Covered.{rounds_keep_cover}
 use Rattle.one_mesh.proofs.Gridded.{rounds_halve_the_grid}
-use Rattle.ma_cells.proofs.Passing.{all_pass, all_weaker, test_all}
+use Rattle.ma_cells.proofs.Passing.{all_pass, test_all}
 use Rattle.one_mesh.proofs.NotFlat.{rounds_are_not_flat}
 use Rattle.size_marks.specs.Field.{Field}
 use Rattle.one_mesh.specs.Adaptation.{Plan, adapted}
@@ -42,8 +40,8 @@ use Rattle.meshadapt.specs.declared.status.Refusal.{Refusal}
 use Rattle.meshadapt.specs.declared.status.Refusal.TheVariants.{Rounds}
 use Rattle.meshadapt.specs.declared.status.Status.{Status}
 use Rattle.meshadapt.specs.declared.status.Status.TheVariants.{Done, Usage, ReadFault, WriteFault, Refused, TooMany, Memory}
-use Rattle.meshadapt.proofs.Accepting.{HoldsOfMark, HoldsOfTet, IsFair, IsSolid, accepted_is_fair}
-use Rattle.meshadapt.proofs.Reading.{ok_is}
+use Rattle.mesh_check.specs.Laws.{IsFair}
+use Rattle.mesh_check.proofs.Fair.{accepted_is_fair}
 use Rattle.ma_cells.proofs.SetItems.{all-ascending_of}
 
 -- no tetrahedron is flat, it is sound, and all places are on the grid
@@ -51,14 +49,13 @@ abbrev IsFine : Inputs → Type 0
 IsFine inputs = (are_tetrahedra inputs.mesh.tets ≡ true) × IsSound inputs.mesh.tets inputs.mesh.marks × (mesh_is_on_grid inputs.grid inputs.mesh ≡ true)
 
 -- ---- the mesh of a file
+in_set : (test : Tetrahedron → Bool) (tets : List Tetrahedron) → list_all test tets ≡ true → list_all test (ascending_of tet_cmp tets) ≡ true
+in_set test tets h = test_all test (ascending_of tet_cmp tets) (all-ascending_of tet_cmp (λ (t : Tetrahedron). test t ≡ true) tets (all_pass test tets h))
+
 on_grid : (k : ℕ) (mesh : MarkedMesh) → IsFair mesh → are_on_grid k mesh.tets ≡ true → mesh_is_on_grid k (set_of mesh) ≡ true
 on_grid k mesh fair on =
-    let OnGrid : Coordinates → Type 0 = λ p. is_on_grid k p ≡ true in
-    let each : AllByRecursion (λ (t : Tetrahedron). list_all (is_on_grid k) t.corners ≡ true) mesh.tets = all_pass (λ t. list_all (is_on_grid k) t.corners) mesh.tets on in
-    let tets : are_on_grid k (ascending_of tet_cmp mesh.tets) ≡ true = test_all (λ t. list_all (is_on_grid k) t.corners) (ascending_of tet_cmp mesh.tets) (all-ascending_of tet_cmp (λ (t : Tetrahedron). list_all (is_on_grid k) t.corners ≡ true) mesh.tets each) in
-    let marked = fair.marks OnGrid (all_weaker (λ (t : Tetrahedron). list_all (is_on_grid k) t.corners ≡ true) (HoldsOfTet OnGrid) (λ t h. all_pass (is_on_grid k) t.corners h) mesh.tets each) in
-    let marks : marks_are_on_grid k mesh.marks ≡ true = test_all (λ m. list_all (is_on_grid k) (corners_of m.cell)) mesh.marks
-    (all_weaker (HoldsOfMark OnGrid) (λ (m : CellMark). list_all (is_on_grid k) (corners_of m.cell) ≡ true) (λ m h. test_all (is_on_grid k) (corners_of m.cell) h) mesh.marks marked) in
+    let tets : are_on_grid k (ascending_of tet_cmp mesh.tets) ≡ true = in_set (λ t. list_all (is_on_grid k) t.corners) mesh.tets on in
+    let marks : marks_are_on_grid k mesh.marks ≡ true = fair.marks (is_on_grid k) on in
     rw (tets, marks) refl
 
 on_its_grid : (tets : List Tetrahedron) → are_on_grid (grid_of tets) tets ≡ true
@@ -67,10 +64,13 @@ on_its_grid tets = (grid_is_greatest tets).passes
 
 set_is_fine : (field : Field) (names : List GroupName) (mesh : MarkedMesh) → IsFair mesh → IsFine (inputs_with field names mesh)
 set_is_fine field names mesh fair = (
-  test_all (λ tet. are_corners tet.corners) (ascending_of tet_cmp mesh.tets) (all-ascending_of tet_cmp IsSolid mesh.tets fair.solid),
+  in_set (λ tet. are_corners tet.corners) mesh.tets fair.not_flat,
   sound_in_any_order mesh.tets (ascending_of tet_cmp mesh.tets) mesh.marks (listed_once-permutes mesh.tets fair.listed) fair.sound,
   on_grid (grid_of mesh.tets) mesh fair (on_its_grid mesh.tets),
 )
+
+ok_is : {A E : Type 0} {x y : A} → ◌≡◌ {A = Result A E} (Ok x) (Ok y) → x ≡ y
+ok_is e = cc
 
 accepted_fine : (field : Field) (names : List GroupName) (read : Result MarkedMesh MeshFault) (inputs : Inputs) → ((mesh : MarkedMesh) → read ≡ Ok mesh → IsFair mesh) → or_unaccepted field names read ≡ Ok inputs → IsFine inputs
 accepted_fine field names (Ok mesh) inputs fair e = subst IsFine (ok_is e) (set_is_fine field names mesh (fair mesh refl))

@@ -1,7 +1,5 @@
 pub mod Numbers
 pub mod Pieces
-pub mod Reading
-pub mod Accepting
 pub mod Acting
 pub mod InTurn
 pub mod Running

@@ -1,9 +1,8 @@
 -- The lines that a run prints.
-use Rattle.std.specs.Prelude.{ℕ, List, [], ◌∷◌, ◌++◌, length, map, min, codes}
+use Rattle.std.specs.Prelude.{ℕ, List, [], ◌∷◌, ◌++◌, length, codes}
 use Rattle.std.specs.Fmt.{decimal, signed_decimal}
 use Rattle.std.specs.List.{count_by}
-use Rattle.ma_geom.specs.Quality.{quality}
-use Rattle.ma_cells.specs.Tetrahedron.{Tetrahedron}
+use Rattle.ma_cells.specs.Worst.{worst}
 use Rattle.ma_cells.specs.declared.batch.Batch.{Batch}
 use Rattle.mesh_check.specs.declared.fault.MeshFault.{MeshFault}
 use Rattle.mesh_check.specs.declared.fault.MeshFault.TheVariants as faults
@@ -25,16 +24,6 @@ ended_line line = line ++ 10 ∷ []
 unfoldable pub mesh_line : Batch → ℕ → List ℕ
 mesh_line mesh loose =
     ended_line (codes "mesh: tets " ++ decimal (length mesh.tets) ++ codes " nodes " ++ decimal (length (nodes_of mesh.tets)) ++ codes " marks " ++ decimal (count_by is_tagged mesh.marks) ++ codes " loose " ++ decimal loose)
-
--- the least of these numbers, zero where there is none
-abbrev pub least : List ℕ → ℕ
-least [] = 0
-least (n ∷ []) = n
-least (n ∷ m ∷ ns) = min n (least (m ∷ ns))
-
--- the least quality of these tetrahedra
-unfoldable pub worst : List Tetrahedron → ℕ
-worst tets = least (map (λ tet. quality tet.corners) tets)
 
 -- the mesh after a round
 unfoldable pub round_line : ℕ → Batch → List ℕ

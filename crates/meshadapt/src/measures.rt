@@ -3,7 +3,7 @@ ghost use Rattle.std.specs.Prelude.{◌≡◌, ◌∷◌, map};
 ghost use Rattle.std.specs.List.{count_by};
 ghost use Rattle.ma_geom.specs.Quality.{quality};
 ghost use Rattle.msh_write.specs.Text.{is_tagged};
-ghost use Rattle.meshadapt.specs.Printed.{least, worst};
+ghost use Rattle.ma_cells.specs.Worst.{least, worst};
 
 use ma_cells::{Mark, Tet};
 use ma_geom::quality;
@@ -27,7 +27,7 @@ fn worst_with(first: u32, tets: &[Tet]) -> u32
 }
 
 /// The least quality, 0 where there is no tetrahedron.
-#[tactic(auto, unfolding(crate::specs::Printed::worst))]
+#[tactic(auto, unfolding(ma_cells::specs::Worst::worst))]
 pub fn worst(tets: &[Tet]) -> u32
     ensures { result ≡ worst tets.now }
 {

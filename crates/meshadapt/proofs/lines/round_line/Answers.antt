@@ -1,5 +1,6 @@
 use Rattle.std.proofs.Common.{[], ◌∷◌, length, codes, decimal, sym}
-use Rattle.meshadapt.specs.Printed.{round_line, worst}
+use Rattle.ma_cells.specs.Worst.{worst}
+use Rattle.meshadapt.specs.Printed.{round_line}
 use Rattle.msh_write.specs.Text.{nodes_of}
 use Rattle.meshadapt.proofs.Pieces.{nine_pieces}
 use Rattle.meshadapt.proofs.lines.round_line.Goals as goal

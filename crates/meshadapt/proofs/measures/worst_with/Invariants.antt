@@ -1,6 +1,6 @@
 use Rattle.std.proofs.Common.{◌≡◌, ◌∷◌, drop, map}
 use Rattle.ma_geom.specs.Quality.{quality}
-use Rattle.meshadapt.specs.Printed.{least}
+use Rattle.ma_cells.specs.Worst.{least}
 use Rattle.meshadapt.proofs.measures.worst_with.Given as goal
 
 -- the least so far, and those of the rest
