@@ -17,12 +17,12 @@ use std::rt::Files;
 
 /// The files of the system, under their paths. It tells nothing of what they hold.
 ///
-/// A store under `X` writes a new file `X.part`, which then takes the name `X`. So a run that is killed, or
-/// a disk that is full, leaves the old file whole. A file `X.part` that was there is lost, and a run that is
-/// killed may leave one. The new file has the permissions of the old one; its owner is who runs, and a
-/// further name (a hard link) of the old file keeps the old bytes. What can't be replaced is written itself,
-/// and a fault may leave a front of the bytes there: a device, a link, a file in a folder that takes no new
-/// one.
+/// A store under `X` writes a new file `X.unfinished`, which then takes the name `X`. So a run that is
+/// killed, or a disk that is full, leaves the old file whole. A file `X.unfinished` that was there is lost,
+/// and a run that is killed may leave one. The new file has the permissions of the old one; its owner is
+/// who runs, and a further name (a hard link) of the old file keeps the old bytes. What can't be replaced
+/// is written itself, and a fault may leave a front of the bytes there: a device, a link, a file in a folder
+/// that takes no new one.
 #[derive(Drop)]
 pub struct DiskDepot<R> {
     rt: R,

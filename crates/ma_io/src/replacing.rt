@@ -23,7 +23,7 @@ pub(crate) fn store_file<R: Files>(
     name: &str,
     bytes: &[u8],
 ) -> Result<(), StoreFault> {
-    let Ok(beside) = format!(in alloc; "{name}.part") else {
+    let Ok(beside) = format!(in alloc; "{name}.unfinished") else {
         return Err(StoreFault::Memory);
     };
     let is_stored = match replace_file(rt, name, beside.as_str(), bytes) {

@@ -64,13 +64,25 @@ fn own_name(rt: &HostRuntime) -> io::Result<String> {
 
 /// The name of what would be beside the file.
 fn name_beside(rt: &HostRuntime, name: &str) -> Result<String, AllocError> {
-    format!(in rt.alloc(); "{name}.part")
+    format!(in rt.alloc(); "{name}.unfinished")
 }
 
 /// Whether a fetch gives these bytes.
 fn gives<D: Depot>(alloc: Global, depot: &mut D, name: &str, bytes: &[u8]) -> bool {
     let mut into = Vec::new(alloc);
     depot.fetch(name, &mut into, bytes.len()).is_ok() && into.as_slice() == bytes
+}
+
+/// Whether a fetch of at most so many bytes is refused so.
+fn refuses<D: Depot>(
+    alloc: Global,
+    depot: &mut D,
+    name: &str,
+    most: usize,
+    why: FetchFault,
+) -> bool {
+    let mut into = Vec::new(alloc);
+    depot.fetch(name, &mut into, most) == Err(why)
 }
 
 #[test]
@@ -81,7 +93,9 @@ fn a_file_on_the_disk_is_replaced_and_fetched(rt: HostRuntime) -> Result<(), Fai
     // Longer than a block that is read at once.
     let long = vec![in rt.alloc(); 7u8; 100_000]?;
     let mut depot = DiskDepot::new(&rt);
+    assert!(rt; refuses(rt.alloc(), &mut depot, name, 9, FetchFault::Absent));
     assert!(rt; depot.store(name, long.as_slice()).is_ok());
+    assert!(rt; refuses(rt.alloc(), &mut depot, name, 99_999, FetchFault::TooLong));
     assert!(rt; gives(rt.alloc(), &mut depot, name, long.as_slice()));
     // What a run that was killed would leave.
     assert!(rt; depot.store(beside.as_str(), b"front").is_ok());
@@ -118,6 +132,15 @@ fn a_file_with_a_folder_beside_it_is_written_itself(rt: HostRuntime) -> Result<(
     assert!(rt; depot.store(name, b"new").is_ok());
     assert!(rt; gives(rt.alloc(), &mut depot, name, b"new"));
     assert!(rt; depot.store(beside.as_str(), b"new") == Err(StoreFault::Failed));
+    assert!(rt;
+        refuses(
+            rt.alloc(),
+            &mut depot,
+            beside.as_str(),
+            9,
+            FetchFault::Failed
+        )
+    );
     assert!(rt; fs::remove_dir(&rt, beside.as_str()).is_ok());
     assert!(rt; fs::remove_file(&rt, name).is_ok());
     Ok(())
