@@ -6,6 +6,7 @@ use Rattle.std.specs.List.{AllByRecursion, AllPairs, count_by}
 use Rattle.std.specs.List.Sorted.{IsPermutation}
 use Rattle.std.proofs.lemmas.Bool.{false_from_ne_true, false≢true}
 use Rattle.std.proofs.lemmas.Int.{ints}
+use Rattle.std.proofs.lemmas.List.Elements.{All-from_recursion, recursion_from_All}
 use Rattle.std.proofs.lemmas.List.Kept.{AllPairs-cons}
 use Rattle.std.proofs.lemmas.List.Sorted.{IsPermutation-append_comm, IsPermutation-cons, IsPermutation-refl, IsPermutation-sym}
 use Rattle.ma_geom.specs.Coordinates.{Coordinates, place_cmp}
@@ -14,13 +15,13 @@ use Rattle.ma_geom.specs.Volume.{vol6}
 use Rattle.ma_cells.specs.Ascending.{has}
 use Rattle.ma_cells.specs.Faces.{faces_of}
 use Rattle.ma_cells.specs.Tetrahedron.{is_flat}
-use Rattle.ma_cells.proofs.Passing.{all_by_index, all_from_index}
+use Rattle.ma_cells.proofs.Members.{all-at}
 use Rattle.ma_cells.proofs.Pieces.{solid_corners}
 use Rattle.ma_cover.specs.Inside.{are_alike, is_inside}
 use Rattle.ma_cover.specs.Sound.{LieOnBothSides}
 use Rattle.ma_cover.proofs.Exchanges.{inside_in_any_order}
 use Rattle.mesh_laws.specs.Sides.{NoFaceHasThree, OnceLieOnBothSides}
-use Rattle.mesh_laws.proofs.Listings.{has_one}
+use Rattle.mesh_laws.proofs.Listings.{exact}
 use Rattle.mesh_laws.proofs.Lists.{count-cons, count-none}
 use Rattle.mesh_laws.proofs.MovedOff.{NoneIsFlatBy, corners_of, cover_stays_at_most}
 use Rattle.mesh_laws.proofs.OneSide.{one_side}
@@ -36,11 +37,11 @@ module _ {X : Type 0} (R : X → X → Type 0) where
   pub pairs_from : (xs : List X) → AllPairs R xs → Pairs R xs
   pairs_from [] h = tt
   pairs_from (x ∷ xs) h =
-      (all_from_index (R x) xs (λ j d below. h 0 (suc j) d (omega arith) (omega arith)), pairs_from xs (λ i j d before below. h (suc i) (suc j) d (omega arith) (omega arith)))
+      (recursion_from_All (R x) xs (λ j d below. h 0 (suc j) d (omega arith) (omega arith)), pairs_from xs (λ i j d before below. h (suc i) (suc j) d (omega arith) (omega arith)))
 
   pub pairs_to : (xs : List X) → Pairs R xs → AllPairs R xs
   pairs_to [] h i j d before below = absurd (omega arith)
-  pairs_to (x ∷ xs) h i j d before below = AllPairs-cons R x xs (all_by_index (R x) xs h.0) (pairs_to xs h.1) i j d before below
+  pairs_to (x ∷ xs) h i j d before below = AllPairs-cons R x xs (All-from_recursion (R x) xs h.0) (pairs_to xs h.1) i j d before below
 
 -- where no three items that pass a test are related, at most two of related items pass
 module _ {X : Type 0} (P : X → Type 0) (R : X → X → Type 0) (test : X → Bool)
@@ -117,7 +118,7 @@ module _ {X : Type 0} (corners : X → List Coordinates) where
 
 pub once_lie_on_both_sides : OnceLieOnBothSides
 once_lie_on_both_sides tets solid once =
-    pairs_to (BothSides corners_of) tets (once_pairs corners_of tets solid (cover_stays_at_most 1 tets [] solid tt (λ p off _. once p off)))
+    pairs_to (BothSides corners_of) tets (once_pairs corners_of tets solid (cover_stays_at_most 1 (λ _ _. true) tets [] solid tt (λ p off _. once p off)))
 
 -- ---- no face has three
 -- that corners have a face, and another place
@@ -127,7 +128,7 @@ IsFaceOf _ corners = ⊥
 
 pub is_face : (corners : List Coordinates) → is_flat corners ≡ false → (face : List Coordinates) → has (slice_cmp place_cmp) face (faces_of corners) ≡ true → IsFaceOf face corners
 is_face = by_four (λ corners. (face : List Coordinates) → has (slice_cmp place_cmp) face (faces_of corners) ≡ true → IsFaceOf face corners) (λ a b c d solid face there.
-    has_one (λ f. IsFaceOf f (a ∷ b ∷ c ∷ d ∷ [])) face (faces_of (a ∷ b ∷ c ∷ d ∷ [])) (
+    all-at exact (λ f. IsFaceOf f (a ∷ b ∷ c ∷ d ∷ [])) face (faces_of (a ∷ b ∷ c ∷ d ∷ [])) (
       (d, IsPermutation-refl (a ∷ b ∷ c ∷ d ∷ [])),
       (
         (c, IsPermutation-cons a (b ∷ d ∷ c ∷ []) (b ∷ c ∷ d ∷ []) (IsPermutation-cons b (d ∷ c ∷ []) (c ∷ d ∷ []) (IsPermutation-append_comm (d ∷ []) (c ∷ [])))),

@@ -15,6 +15,7 @@ use Rattle.ma_cells.specs.Cells.{CellMark}
 use Rattle.ma_cells.specs.Faces.{faces_of}
 use Rattle.ma_cells.specs.Incidence.{is_marked}
 use Rattle.ma_cells.specs.Tetrahedron.{Tetrahedron, are_tetrahedra}
+use Rattle.ma_cells.proofs.Members.{all-at}
 use Rattle.ma_cells.specs.declared.cell.Cell.TheVariants.{Tri}
 use Rattle.ma_cover.specs.Inside.{are_alike, is_inside}
 use Rattle.ma_cover.specs.Sound.{IsSound}
@@ -25,7 +26,7 @@ use Rattle.mesh_laws.specs.Parity.{AreSameOddly}
 use Rattle.mesh_laws.specs.Points.{NoneIsFlat, IsOffPlane}
 use Rattle.mesh_laws.specs.Sides.{whole_holders}
 use Rattle.mesh_laws.specs.Sounds.{OddAreMarked}
-use Rattle.mesh_laws.proofs.Listings.{has_one, same}
+use Rattle.mesh_laws.proofs.Listings.{exact, same}
 use Rattle.mesh_laws.proofs.Oddly.{odd_is, odd_of, odd_some, xor}
 use Rattle.mesh_laws.proofs.Sounds.{odd_marked_is_sound, same_cover_stays_sound, tetrahedra_not_flat}
 
@@ -91,7 +92,7 @@ odd_marked tets marks region all phys elem face odd =
     elim (int_eq (pos 1) phys && int_eq (pos 1) elem) as (λ b. odd_of (λ (tet : Tetrahedron). b && has (slice_cmp place_cmp) face (faces_of tet.corners)) tets ≡ true → is_marked marks face ≡ true) [
       | true ↦ λ h.
           let one = odd_some (λ (tet : Tetrahedron). has (slice_cmp place_cmp) face (faces_of tet.corners)) (λ tet. AllByRecursion (IsMarkedIfOdd tets marks) (faces_of tet.corners)) tets all h in
-          has_one (IsMarkedIfOdd tets marks) face (faces_of one.0.corners) one.2 one.1 h
+          all-at exact (IsMarkedIfOdd tets marks) face (faces_of one.0.corners) one.2 one.1 h
       | false ↦ λ h. absurd (false≢true (sym (none tets) ∙ h))
     ] (sym (alike tets region) ∙ sym (odd_is _ tets) ∙ odd)
   where
@@ -113,7 +114,7 @@ whole_is_sound =
     (odd_marked whole marks ((refl, refl), tt) (((λ _. refl), ((λ _. refl), ((λ _. refl), ((λ _. refl), tt)))), tt)) refl
 
 pub same_cover : CoverTheSame whole halves
-same_cover phys elem p _ off = bisection_keeps_cover phys elem p m o x whole (record { x = refl; y = refl; z = refl }) (λ e. differ (ap (λ q. q.x) e)) whole_tetrahedra off
+same_cover phys elem p _ off = bisection_keeps_cover (λ u w. int_eq u phys && int_eq w elem) p m o x whole (record { x = refl; y = refl; z = refl }) (λ e. differ (ap (λ q. q.x) e)) whole_tetrahedra off
   where
     differ : pos 0 ≡ pos 2 → ⊥
     differ e = omega (arith, ints)

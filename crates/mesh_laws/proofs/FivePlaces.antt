@@ -20,7 +20,7 @@ use Rattle.ma_cells.specs.Faces.{faces_of}
 use Rattle.ma_cover.specs.Inside.{are_alike, is_beside, is_inside}
 use Rattle.mesh_laws.specs.FivePlaces.{FivePlacesCancel, enclosed}
 use Rattle.mesh_laws.specs.Points.{IsOffPlane}
-use Rattle.mesh_laws.proofs.FiveSigns.{alike, can_cancel, is_minus, is_plus, is_strict_or_flat, is_zero, number, product, signs_cancel, turned, turns, within, within_is}
+use Rattle.mesh_laws.proofs.FiveSigns.{alike, can_cancel, is_minus, is_plus, is_strict_or_flat, is_null, number, product, signs_cancel, turned, turns, within, within_is}
 use Rattle.mesh_laws.proofs.MovedOff.{bent, point_or_not}
 use Rattle.mesh_laws.proofs.Weights.{inside_is_point, is_or_not, some_a, some_b, some_c, turned_a}
 
@@ -62,7 +62,7 @@ sign_product (negsuc m) (pos zero) = sign_zero (negsuc m *ℤ pos zero) (omega (
 sign_product (negsuc m) (pos (suc n)) = sign_minus (negsuc m *ℤ pos (suc n)) (omega (arith, ints))
 sign_product (negsuc m) (negsuc n) = sign_plus (negsuc m *ℤ negsuc n) (omega (arith, ints))
 
-not_zero : (x : ℤ) → x ≢ pos 0 → is_zero (sign_of x) ≡ false
+not_zero : (x : ℤ) → x ≢ pos 0 → is_null (sign_of x) ≡ false
 not_zero (pos zero) h = absurd (h refl)
 not_zero (pos (suc n)) h = refl
 not_zero (negsuc n) h = refl
@@ -79,7 +79,7 @@ signum_is (pos (suc n)) = ap pos (by n)
 signum_is (negsuc n) = refl
 
 -- ---- numbers that sum to zero
-none_is : (x : ℤ) → int_eq x (pos 0) ≡ is_zero (sign_of x)
+none_is : (x : ℤ) → int_eq x (pos 0) ≡ is_null (sign_of x)
 none_is (pos zero) = grind (arith, ints)
 none_is (pos (suc n)) = grind (arith, ints)
 none_is (negsuc n) = grind (arith, ints)
@@ -145,12 +145,12 @@ module _ (a b c d e : Coordinates) (p : Rational) where
 -- ---- one tetrahedron
 flat_so : (q r s t : ℤ) → ((t -ℤ s) +ℤ r) -ℤ q ≡ pos 0 → is_strict_or_flat (sign_of q) (sign_of r) (sign_of s) (sign_of t) ≡ true
 flat_so q r s t e =
-    or_right (not (list_any is_zero (sign_of q ∷ sign_of r ∷ sign_of s ∷ sign_of t ∷ []))) (can_cancel (sign_of t ∷ turned (sign_of s) ∷ sign_of r ∷ turned (sign_of q) ∷ []))
+    or_right (not (list_any is_null (sign_of q ∷ sign_of r ∷ sign_of s ∷ sign_of t ∷ []))) (can_cancel (sign_of t ∷ turned (sign_of s) ∷ sign_of r ∷ turned (sign_of q) ∷ []))
     (rw (← sign_turned s, ← sign_turned q) (four_cancel t (neg_ℤ s) r (neg_ℤ q) e))
 
 strict_so : (q r s t : ℤ) → q ≢ pos 0 → r ≢ pos 0 → s ≢ pos 0 → t ≢ pos 0 → is_strict_or_flat (sign_of q) (sign_of r) (sign_of s) (sign_of t) ≡ true
 strict_so q r s t e f g h =
-    or_left (not (list_any is_zero (sign_of q ∷ sign_of r ∷ sign_of s ∷ sign_of t ∷ []))) (can_cancel (sign_of t ∷ turned (sign_of s) ∷ sign_of r ∷ turned (sign_of q) ∷ []))
+    or_left (not (list_any is_null (sign_of q ∷ sign_of r ∷ sign_of s ∷ sign_of t ∷ []))) (can_cancel (sign_of t ∷ turned (sign_of s) ∷ sign_of r ∷ turned (sign_of q) ∷ []))
     (rw (not_zero q e, not_zero r f, not_zero s g, not_zero t h) refl)
 
 module _ (p : Rational) (a b c d : Coordinates) where

@@ -13,9 +13,9 @@ abbrev pub is_minus : Sign → Bool
 is_minus Minus = true
 is_minus _ = false
 
-abbrev pub is_zero : Sign → Bool
-is_zero Zero = true
-is_zero _ = false
+abbrev pub is_null : Sign → Bool
+is_null Zero = true
+is_null _ = false
 
 abbrev pub is_plus : Sign → Bool
 is_plus Plus = true
@@ -33,7 +33,7 @@ product Plus t = t
 
 -- whether numbers with these signs can sum to zero
 abbrev pub can_cancel : List Sign → Bool
-can_cancel ss = (list_any is_plus ss && list_any is_minus ss) || list_all is_zero ss
+can_cancel ss = (list_any is_plus ss && list_any is_minus ss) || list_all is_null ss
 
 -- ---- tests of signs
 -- whether each item of the list can have any sign, so that f passes
@@ -80,7 +80,7 @@ sum_of abc abd abe acd ace ade bcd bce bde cde =
 
 -- that no side of a tetrahedron is zero, or its volume is
 abbrev pub is_strict_or_flat : (bcd acd abd abc : Sign) → Bool
-is_strict_or_flat bcd acd abd abc = not (list_any is_zero (bcd ∷ acd ∷ abd ∷ abc ∷ [])) || can_cancel (abc ∷ turned abd ∷ acd ∷ turned bcd ∷ [])
+is_strict_or_flat bcd acd abd abc = not (list_any is_null (bcd ∷ acd ∷ abd ∷ abc ∷ [])) || can_cancel (abc ∷ turned abd ∷ acd ∷ turned bcd ∷ [])
 
 -- what the sides of five places fulfil
 abbrev pub tests : (abc abd abe acd ace ade bcd bce bde cde : Sign) → List (Unit {0} → Bool)

@@ -1,12 +1,11 @@
 -- How often a face is listed among those of tetrahedra.
 use Rattle.std.proofs.Common.{◌≡◌, ◌≢◌, ℕ, ◌+◌, Bool, true, false, cond, not, ◌&&◌, ◌||◌, List, [], ◌∷◌, get_or, refl, sym, ap, ap₂, subst, ◌∙◌}
 use Rattle.std.specs.Prelude.{pos}
-use Rattle.std.specs.Cmp.{Equal-is, tied_itself}
+use Rattle.std.specs.Cmp.{tied_itself}
 use Rattle.std.specs.Cmp.Lexicographic.{lists_total, slice_cmp}
-use Rattle.std.specs.FinMap.{slice_cmp-IsAntisymmetric}
-use Rattle.std.specs.List.{AllByRecursion}
+use Rattle.std.specs.FinMap.{IsAntisymmetric, slice_cmp-IsAntisymmetric}
 use Rattle.std.specs.Ordering.{eq_by_cmp, int_eq, is_eq}
-use Rattle.std.proofs.lemmas.Bool.{false_from_ne_true, false≢true}
+use Rattle.std.proofs.lemmas.Bool.{false_from_ne_true}
 use Rattle.std.proofs.lemmas.List.Sums.{sum_by-append}
 use Rattle.ma_geom.specs.Coordinates.{Coordinates, place_cmp}
 use Rattle.ma_geom.specs.Volume.{vol6}
@@ -15,6 +14,7 @@ use Rattle.ma_geom.proofs.Identities.{vol6_same_ab, vol6_same_bc, vol6_same_cd}
 use Rattle.ma_cells.specs.Ascending.{are_distinct, has}
 use Rattle.ma_cells.specs.Faces.{faces_of}
 use Rattle.ma_cells.specs.Tetrahedron.{is_flat}
+use Rattle.ma_cells.proofs.Members.{tied_is}
 use Rattle.ma_cells.proofs.Permutations.{alone}
 use Rattle.mesh_laws.specs.Parity.{HoldersAreListings, region_faces, listings}
 use Rattle.mesh_laws.proofs.Lists.{count-cons}
@@ -24,20 +24,14 @@ use Rattle.mesh_laws.proofs.Weights.{by_four}
 abbrev pub same : List Coordinates → List Coordinates → Bool
 same = eq_by_cmp (slice_cmp place_cmp)
 
+pub exact : IsAntisymmetric (slice_cmp place_cmp)
+exact = slice_cmp-IsAntisymmetric place_cmp-IsAntisymmetric
+
 pub same_is : (f g : List Coordinates) → same f g ≡ true → f ≡ g
-same_is f g t = slice_cmp-IsAntisymmetric place_cmp-IsAntisymmetric f g ((Equal-is (slice_cmp place_cmp f g)).0 t)
+same_is = tied_is exact
 
 pub same_itself : (f : List Coordinates) → same f f ≡ true
 same_itself f = ap is_eq (tied_itself (lists_total place_cmp_total) f)
-
--- what holds of each item holds of one that is there
-pub has_one : (P : List Coordinates → Type 0) (face : List Coordinates) (fs : List (List Coordinates)) → AllByRecursion P fs → has (slice_cmp place_cmp) face fs ≡ true → P face
-has_one P face [] all h = absurd (false≢true h)
-has_one P face (f ∷ fs) all h =
-    elim (same face f) as (λ b. same face f ≡ b → (b || has (slice_cmp place_cmp) face fs) ≡ true → P face) [
-      | true ↦ λ e _. subst P (sym (same_is face f e)) all.0
-      | false ↦ λ _ k. has_one P face fs all.1 k
-    ] refl h
 
 -- ---- what is distinct is listed once or not at all
 pub times_distinct : (face : List Coordinates) (faces : List (List Coordinates)) → are_distinct (slice_cmp place_cmp) faces ≡ true → listings face faces ≡ cond (has (slice_cmp place_cmp) face faces) 1 0

@@ -160,7 +160,7 @@ pub points_move_off_faces : PointsMoveOffFaces
 points_move_off_faces = move_off corners_of
 
 pub cover_stays_at_most : CoverStaysAtMost
-cover_stays_at_most n tets others = covered_at_most corners_of (λ tet. true) n tets others
+cover_stays_at_most n regions tets others = covered_at_most corners_of (λ tet. regions tet.phys tet.elem) n tets others
 
 pub same_cover_is_handed_on : SameCoverIsHandedOn
 same_cover_is_handed_on tets between others solid solid_between solid_others first second phys elem =

@@ -117,10 +117,10 @@ alike_turned : (x y : ℤ) → are_alike x y ≡ true → are_alike y x ≡ true
 alike_turned x y h = grind (arith, ints)
 
 -- ---- the common point
-within : (k : ℕ) (u v w d : Coordinates) (s : ℤ) → are_alike (vol6 u v w d) s ≡ true
+beyond_inside : (k : ℕ) (u v w d : Coordinates) (s : ℤ) → are_alike (vol6 u v w d) s ≡ true
     → unsigned_abs (gap s u v w v w d) < k → unsigned_abs (gap s u v w u w d) < k → unsigned_abs (gap s u v w u v d) < k
     → is_inside (beyond (pos k) s u v w) (u ∷ v ∷ w ∷ d ∷ []) ≡ true
-within k u v w d s alike small_u small_v small_w =
+beyond_inside k u v w d s alike small_u small_v small_w =
     all (are_alike (vol6 v w d u) (side v w d p)) (are_alike (vol6 u w d v) (side u w d p)) (are_alike (vol6 u v d w) (side u v d p)) (are_alike (vol6 u v w d) (side u v w p))
     (kept (vol6 v w d u) (gap s u v w v w d) (side v w d p) (some_a u v w d solid) small_u (at_u (pos k) s u v w d))
     (kept (vol6 u w d v) (gap s u v w u w d) (side u w d p) (some_b u v w d solid) small_v (at_v (pos k) s u v w d))
@@ -150,8 +150,8 @@ one_side u v w d e alike =
     let k = bound unsigned_abs (gap s u v w v w d ∷ gap s u v w u w d ∷ gap s u v w u v d ∷ gap s u v w v w e ∷ gap s u v w u w e ∷ gap s u v w u v e ∷ []) in
     record {
       p = beyond (pos k.0) s u v w;
-      first = within k.0 u v w d s (alike_itself s (alike_some s (vol6 u v w e) alike).0) k.1.0 k.1.1.0 k.1.1.1.0;
-      second = within k.0 u v w e s (alike_turned s (vol6 u v w e) alike) k.1.1.1.1.0 k.1.1.1.1.1.0 k.1.1.1.1.1.1.0;
+      first = beyond_inside k.0 u v w d s (alike_itself s (alike_some s (vol6 u v w e) alike).0) k.1.0 k.1.1.0 k.1.1.1.0;
+      second = beyond_inside k.0 u v w e s (alike_turned s (vol6 u v w e) alike) k.1.1.1.1.0 k.1.1.1.1.1.0 k.1.1.1.1.1.1.0;
     }
 
 -- it can be moved off any planes

@@ -21,6 +21,7 @@ use Rattle.ma_cells.specs.Meshes.{corner_sets}
 use Rattle.ma_cells.specs.Tetrahedron.{Tetrahedron, are_corners, are_tetrahedra, is_flat, tet_cmp}
 use Rattle.ma_cells.proofs.CellOrders.{mark_cmp-IsAntisymmetric}
 use Rattle.ma_cells.proofs.Corners.{corners_span}
+use Rattle.ma_cells.proofs.Members.{all-at}
 use Rattle.ma_cells.proofs.Passing.{all-map, all_pass, all_weaker, test_all}
 use Rattle.ma_cells.proofs.Permutations.{distinct-permutes, listed_once-permutes}
 use Rattle.ma_cells.proofs.SetItems.{all-ascending_of, from-ascending_of}
@@ -32,7 +33,7 @@ use Rattle.mesh_laws.specs.Points.{NoneIsFlat}
 use Rattle.mesh_laws.specs.Sides.{whole_holders}
 use Rattle.mesh_laws.specs.Sounds.{ConformingOddAreMarked, OddMarkedIsSound, SameCoverStaysSound, SoundAsSets, SoundCoversOnce, ConformingFaceHasTwo, ConformingIsListedOnce}
 use Rattle.mesh_laws.proofs.BothSides.{BothSides, Pairs, no_face_has_three, once_lie_on_both_sides, once_pairs, pairs_from}
-use Rattle.mesh_laws.proofs.Listings.{has_one}
+use Rattle.mesh_laws.proofs.Listings.{exact}
 use Rattle.mesh_laws.proofs.Lists.{all_items, count-more}
 use Rattle.mesh_laws.proofs.MovedOff.{NoneIsFlatBy, corners_of as corners_of_tet, cover_stays_at_most}
 use Rattle.mesh_laws.proofs.Regions.{same_cover_stays_at_most}
@@ -45,7 +46,7 @@ tetrahedra_not_flat tets are =
 
 -- ---- at most once
 pub sound_covers_once : SoundCoversOnce
-sound_covers_once tets marks sound solid = cover_stays_at_most 1 tets [] solid tt (λ p off _. sound.once p off)
+sound_covers_once tets marks sound solid = cover_stays_at_most 1 (λ _ _. true) tets [] solid tt (λ p off _. sound.once p off)
 
 pub conforming_face_has_two : ConformingFaceHasTwo
 conforming_face_has_two tets marks conforming solid = no_face_has_three tets solid conforming.sides
@@ -61,7 +62,7 @@ not_beside_itself = by_four (λ corners. LieOnBothSides corners corners → ⊥)
 both_sides_distinct : (ts : List (List Coordinates)) → NoneIsFlatBy (λ t. t) ts → Pairs LieOnBothSides ts → are_distinct (slice_cmp place_cmp) ts ≡ true
 both_sides_distinct [] solid pairs = refl
 both_sides_distinct (t ∷ ts) solid pairs =
-    rw (false_from_ne_true (has (slice_cmp place_cmp) t ts) (λ h. not_beside_itself t solid.0 (has_one (LieOnBothSides t) t ts pairs.0 h))) (both_sides_distinct ts solid.1 pairs.1)
+    rw (false_from_ne_true (has (slice_cmp place_cmp) t ts) (λ h. not_beside_itself t solid.0 (all-at exact (LieOnBothSides t) t ts pairs.0 h))) (both_sides_distinct ts solid.1 pairs.1)
 
 -- where no point is within two, all are distinct
 pub once_distinct : (ts : List (List Coordinates)) → NoneIsFlatBy (λ t. t) ts → ((p : Rational) → count_by (is_inside p) ts ≤ 1) → are_distinct (slice_cmp place_cmp) ts ≡ true
@@ -148,4 +149,4 @@ odd_marked_is_sound tets marks solid once odd on =
 
 pub same_cover_stays_sound : SameCoverStaysSound
 same_cover_stays_sound tets others marks new sound solid others_solid same odd on =
-    odd_marked_is_sound others new others_solid (λ p _. same_cover_stays_at_most 1 tets others solid others_solid same sound.once p) odd on
+    odd_marked_is_sound others new others_solid (λ p _. same_cover_stays_at_most 1 (λ _ _. true) tets others solid others_solid same sound.once p) odd on

@@ -1,5 +1,5 @@
 //! Each law is the contract of a function that does nothing.
-ghost use Rattle.mesh_laws.specs.Covers.{CoverStaysAtMost, RegionsGiveWholeCover, SameCoverIsHandedOn, SameCoverStaysAtMost};
+ghost use Rattle.mesh_laws.specs.Covers.{CoverStaysAtMost, RegionsGiveCover, SameCoverIsHandedOn, SameCoverStaysAtMost};
 ghost use Rattle.mesh_laws.specs.FivePlaces.{FivePlacesCancel};
 ghost use Rattle.mesh_laws.specs.Parity.{HoldersAreListings, SameOddlyPassOddly};
 ghost use Rattle.mesh_laws.specs.Points.{OnlyPointsAreInside, PointsMoveOffFaces, PointsMoveOffPlanes};
@@ -36,9 +36,9 @@ pub fn same_cover_is_handed_on()
     ensures { SameCoverIsHandedOn }
 {}
 
-/// The covers of all regions give the whole cover.
-pub fn regions_give_whole_cover()
-    ensures { RegionsGiveWholeCover }
+/// The covers of all regions give that of whichever together.
+pub fn regions_give_cover()
+    ensures { RegionsGiveCover }
 {}
 
 /// The same cover has the same bounds.
