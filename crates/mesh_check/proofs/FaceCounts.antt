@@ -34,6 +34,7 @@ use Rattle.mesh_check.proofs.Alone.{any-filter}
 use Rattle.mesh_check.proofs.Marking.{any-filter_map, passes}
 use Rattle.ma_cells.proofs.Ascents.{has-ascending_of}
 use Rattle.ma_cells.proofs.Choices.{all-append}
+use Rattle.ma_cells.proofs.Members.{all-at, any-at}
 use Rattle.msh_read.specs.Raw.{Raw}
 use Rattle.mesh_check.specs.steps.FoundMarks.{found_marks, kept_mark}
 use Rattle.ma_cells.specs.Faces.{faces_of}
@@ -54,29 +55,6 @@ side_cmp-IsAntisymmetric s t e =
     let physes = int_cmp-IsAntisymmetric s.1.0 t.1.0 second.0 in
     let elems = int_cmp-IsAntisymmetric s.1.1 t.1.1 second.1 in
     λ i. (faces i, (physes i, elems i))
-
--- ---- an item of a list, which ties with no other than itself
-module _ {K : Type 0} {R : K → K → Ordering} (exact : IsAntisymmetric R) where
-  is_item : (s x : K) → eq_by_cmp R s x ≡ true → s ≡ x
-  is_item s x tied = exact s x ((Equal-is (R s x)).0 tied)
-
-  -- a test that it passes is passed
-  any-at : (f : K → Bool) (s : K) (xs : List K) → has R s xs ≡ true → f s ≡ true → list_any f xs ≡ true
-  any-at f s [] there passed = absurd (false≢true there)
-  any-at f s (x ∷ xs) there passed =
-      elim (or_cases (eq_by_cmp R s x) (has R s xs) there) [
-        | inl tied ↦ rw (subst (λ y. f y ≡ true) (is_item s x tied) passed) refl
-        | inr later ↦ ap (λ b. f x || b) (any-at f s xs later passed) ∙ or_right (f x) true refl
-      ]
-
-  -- what holds of all items holds of it
-  all-at : (P : K → Type 0) (s : K) (xs : List K) → AllByRecursion P xs → has R s xs ≡ true → P s
-  all-at P s [] all there = absurd (false≢true there)
-  all-at P s (x ∷ xs) all there =
-      elim (or_cases (eq_by_cmp R s x) (has R s xs) there) [
-        | inl tied ↦ subst P (sym (is_item s x tied)) all.0
-        | inr later ↦ all-at P s xs all.1 later
-      ]
 
 -- ---- how often an item stands in a list
 added : (c f r n : ℕ) → c ≡ f + r → f ≡ 0 → r ≡ n → c ≡ n

@@ -25,6 +25,7 @@ use Rattle.ma_cells.specs.Incidence.{is_on}
 use Rattle.mesh_check.specs.Places.{corner_positions, is_in_range}
 use Rattle.mesh_check.specs.steps.ShiftedPlaces.{place_of}
 use Rattle.mesh_check.specs.steps.Tetrahedra.{places_of}
+use Rattle.ma_cells.proofs.Members.{all-at}
 use Rattle.ma_cells.proofs.SetItems.{all-ascending_of, from-ascending_of}
 
 split : {K : Type 0} (P : K → Type 0) (xs ys : List K) → AllByRecursion P (xs ++ ys) → AllByRecursion P xs × AllByRecursion P ys
@@ -92,18 +93,9 @@ tetrahedra-in : (raw : Raw) (shift : ℕ) (tets : List RawTet) → AllByRecursio
 tetrahedra-in raw shift [] h = tt
 tetrahedra-in raw shift (tet ∷ tets) h = (all-ascending_of place_cmp In (places_at raw shift tet.at) (mapped raw shift tet.at h.0), tetrahedra-in raw shift tets h.1)
 
-corner-in : (q : Coordinates) (corners : List Coordinates) → AllByRecursion In corners → has place_cmp q corners ≡ true → In q
-corner-in q [] h e = absurd (false≢true e)
-corner-in q (c ∷ cs) h e =
-    elim (place_cmp q c) as (λ r. place_cmp q c ≡ r → (is_eq r || has place_cmp q cs) ≡ true → In q) [
-      | Less ↦ λ _ k. corner-in q cs h.1 k
-      | Equal ↦ λ f _. subst In (sym (place_cmp-IsAntisymmetric q c f)) h.0
-      | Greater ↦ λ _ k. corner-in q cs h.1 k
-    ] refl e
-
 held-in : (corners places : List Coordinates) → AllByRecursion In corners → holds_all corners places ≡ true → AllByRecursion In places
 held-in corners [] h e = tt
-held-in corners (p ∷ ps) h e = let both = and_parts (has place_cmp p corners) (holds_all corners ps) e in (corner-in p corners h both.0, held-in corners ps h both.1)
+held-in corners (p ∷ ps) h e = let both = and_parts (has place_cmp p corners) (holds_all corners ps) e in (all-at place_cmp-IsAntisymmetric In p corners h both.0, held-in corners ps h both.1)
 
 cell-in : (cell : Cell) (tets : List Tetrahedron) → AllByRecursion (λ (t : Tetrahedron). AllByRecursion In t.corners) tets → is_on tets cell ≡ true → AllByRecursion In (corners_of cell)
 cell-in cell [] h e = absurd (false≢true e)

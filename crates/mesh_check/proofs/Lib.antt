@@ -12,3 +12,4 @@ pub mod FaceCounts
 pub mod MarksOn
 pub mod Sound
 pub mod GreatestGrid
+pub mod Fair

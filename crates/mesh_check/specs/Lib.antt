@@ -4,4 +4,5 @@ pub mod Lone
 pub mod Marks
 pub mod Accepted
 pub mod Answer
+pub mod Laws
 pub mod steps

@@ -22,8 +22,8 @@ pub enum MeshFault {
     /// These two tetrahedra have the same corners. No such pair has a lower first tetrahedron, or
     /// the same first and a lower second.
     Repeated(u64, u64),
-    /// These two tetrahedra overlap, so far as none of the forms that are tried parts them. No such
-    /// pair has a lower first tetrahedron, or the same first and a lower second.
+    /// These two tetrahedra overlap, so far as none of the forms that are tried separates them. No
+    /// such pair has a lower first tetrahedron, or the same first and a lower second.
     Overlap(u64, u64),
     Memory,
 }

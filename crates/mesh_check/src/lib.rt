@@ -5,6 +5,7 @@ mod acceptance;
 mod cells;
 mod fault;
 mod grids;
+pub mod laws;
 mod lone;
 mod marks;
 mod pairs;

@@ -36,6 +36,16 @@ fn line(a: u32, b: u32) -> RawMark {
     }
 }
 
+/// The mesh with these nodes and tetrahedra, and no marks.
+fn bare(alloc: Global, nodes: [Place; 4], tets: Vec<RawTet>) -> Result<RawMesh, Fail> {
+    Ok(RawMesh {
+        nodes: Vec::from_slice(alloc, &nodes)?,
+        tets,
+        marks: Vec::new(alloc),
+        names: Vec::new(alloc),
+    })
+}
+
 /// The mesh with these corners and a fifth node.
 fn raw(alloc: Global, fifth: Place, tets: &[RawTet], marks: Vec<RawMark>) -> Result<RawMesh, Fail> {
     let mut nodes = Vec::from_slice(alloc, &corners()?)?;
@@ -82,14 +92,12 @@ fn each_fault_names_the_least_positions(rt: HostRuntime) -> Result<(), Fail> {
     let whole = tet([0, 1, 2, 3], 0, 1);
     let other = tet([0, 1, 2, 4], 0, 1);
     let turned = tet([3, 2, 1, 0], 5, 6);
-    let far = place(1 << 30, 0, 0)?;
     let level = place(8, 8, 0)?;
     let again = place(0, 8, 0)?;
-    let rows: [(Place, &[RawTet], u32, Option<MeshFault>); 9] = [
+    let rows: [(Place, &[RawTet], u32, Option<MeshFault>); 8] = [
         (level, &[whole], 0, None),
         (again, &[whole], 0, None),
         (level, &[], 0, Some(NoTets)),
-        (far, &[whole, other], 1, Some(TooFar(5))),
         (again, &[other], 0, Some(SamePlace(3, 5))),
         (level, &[other], 0, Some(Flat(1))),
         (level, &[whole, other], 0, Some(Flat(2))),
@@ -99,6 +107,28 @@ fn each_fault_names_the_least_positions(rt: HostRuntime) -> Result<(), Fail> {
     for (fifth, tets, shift, expected) in rows {
         assert!(rt; fault(rt.alloc(), fifth, tets, shift)? == expected);
     }
+    Ok(())
+}
+
+#[test]
+fn the_second_node_is_too_far_after_a_shift_by_1(rt: HostRuntime) -> Result<(), Fail> {
+    let [o, _, y, z] = corners()?;
+    let nodes = [o, place(1_073_741_824, 0, 0)?, y, z];
+    let mesh = bare(
+        rt.alloc(),
+        nodes,
+        vec![in rt.alloc(); tet([0, 1, 2, 3], 0, 1)]?,
+    )?;
+    assert!(rt; accept(rt.alloc(), &mesh, 0).is_ok());
+    assert!(rt; accept(rt.alloc(), &mesh, 1).err() == Some(MeshFault::TooFar(2)));
+    Ok(())
+}
+
+#[test]
+fn more_than_200_000_tetrahedra_are_too_many(rt: HostRuntime) -> Result<(), Fail> {
+    let tets = vec![in rt.alloc(); tet([0, 1, 2, 3], 0, 1); 200_001]?;
+    let mesh = bare(rt.alloc(), corners()?, tets)?;
+    assert!(rt; accept(rt.alloc(), &mesh, 0).err() == Some(MeshFault::TooManyTets(200_001)));
     Ok(())
 }
 
