@@ -139,20 +139,19 @@ fn a_mesh_that_is_not_there_is_missing(rt: HostRuntime) -> Result<(), Fail> {
 #[test]
 fn a_file_that_is_cut_after_a_line_is_refused_at_the_next(rt: HostRuntime) -> Result<(), Fail> {
     let mut front = String::new(rt.alloc());
-    let mut next = 1;
-    for line in MESH.lines() {
-        let missing = match next {
-            1 => "no format",
-            4 => "no nodes",
-            11 => "no elements",
+    for (done, line) in MESH.lines().enumerate() {
+        let missing = match done {
+            0 => "no format",
+            3 => "no nodes",
+            10 => "no elements",
             _ => "truncated",
         };
+        let next = done + 1;
         let reason = format!(in rt.alloc(); "mesh line {next}: {missing}")?;
         is_refused(&rt, rt.alloc(), front.as_bytes(), reason.as_str())?;
         writeln!(front, "{line}")?;
-        next += 1;
     }
-    assert_eq!(rt; next, 15);
+    assert_eq!(rt; front.as_str(), MESH);
     Ok(())
 }
 
