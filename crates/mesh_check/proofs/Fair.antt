@@ -25,6 +25,7 @@ use Rattle.mesh_check.specs.steps.FoundMarks.{found_loose, found_marks, found_of
 use Rattle.mesh_check.specs.steps.Tetrahedra.{counted, distinct_tets, found_tets, numbered_tet, placed}
 use Rattle.mesh_check.proofs.Apart.{none_overlaps}
 use Rattle.mesh_check.proofs.Bridge.{found-accepted}
+use Rattle.mesh_check.proofs.CellsOfMarks.{marks_are_cells}
 use Rattle.mesh_check.proofs.MarksOn.{marks_on_cells}
 use Rattle.mesh_check.proofs.Numbered.{distinct-no_pair, each-pass, numbered_tet-corners, then_ok}
 use Rattle.mesh_check.proofs.Sound.{mesh_is_accepted, mesh_is_sound}
@@ -100,6 +101,7 @@ found_is_fair raw shift mesh e =
     subst IsFair (ok_is (passed (apart read.0) (Ok (marked read.0)) mesh read.2)) (record {
       not_flat = fine.0;
       listed = fine.1;
+      cells = marks_are_cells raw shift read.0;
       sound = mesh_is_sound raw shift read.0 fine.0 none;
       accepted = mesh_is_accepted raw shift read.0 fine.0 none;
       marks = λ test all. of_marks test read.0 (found_marks raw shift read.0) (marks_on_cells raw shift read.0) all;

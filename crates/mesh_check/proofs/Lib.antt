@@ -3,6 +3,7 @@ pub mod Ranges
 pub mod Numbered
 pub mod Alone
 pub mod FoundCells
+pub mod CellsOfMarks
 pub mod Marking
 pub mod Whole
 pub mod InRange

@@ -8,6 +8,7 @@ use Rattle.std.specs.List.{AllByRecursion, cons_option, filter_map, flat_map, li
 use Rattle.std.proofs.lemmas.List.{take_more}
 use Rattle.std.specs.Option.{is_none, option_and_then, option_map, option_to_list}
 use Rattle.msh_read.specs.declared.raw.RawMark.{RawMark}
+use Rattle.mesh_check.proofs.CellsOfMarks.{of_shifted}
 use Rattle.mesh_check.specs.steps.Tetrahedra.{places_of}
 use Rattle.std.proofs.lemmas.List.Elements.{filter_map-append}
 use Rattle.ma_geom.specs.Coordinates.{Coordinates}
@@ -154,18 +155,9 @@ others_are h (x ∷ xs) =
     one_kept : (kept c rest n : ℕ) → c ≡ 0 + rest → kept + rest ≡ n → suc kept + c ≡ suc n
     one_kept kept c rest n e h = omega arith
 
-moved_cell : (nodes : List Coordinates) (shift : ℕ) (mark : RawMark) → IfSome (shifted_mark nodes shift mark) (λ m. is_cell m.cell ≡ true)
-unfolding shifted_mark
-moved_cell nodes shift mark =
-    let make : Cell → CellMark = λ cell. record { cell = cell; phys = mark.phys; elem = mark.elem } in
-    elim (places_of nodes shift mark.at.items) as (λ found. IfSome (option_and_then (λ corners. option_map make (cell_of corners)) found) (λ m. is_cell m.cell ≡ true)) [
-      | None ↦ tt
-      | Some corners ↦ elim (cell_of corners) as (λ cell. IfSome cell (λ c. is_cell c ≡ true) → IfSome (option_map make cell) (λ m. is_cell m.cell ≡ true)) [ None ↦ λ _. tt | Some cell ↦ λ h. h ] (is_cell-of corners)
-    ]
-
 cells_are_cells : (nodes : List Coordinates) (shift : ℕ) (raw : List RawMark) → AllByRecursion (λ (m : CellMark). is_cell m.cell ≡ true) (filter_map (shifted_mark nodes shift) raw)
 cells_are_cells nodes shift raw =
-    all-filter_map (λ (mark : RawMark). Unit {0}) (λ m. is_cell m.cell ≡ true) (shifted_mark nodes shift) (λ mark _. moved_cell nodes shift mark) raw (all_anyway raw)
+    all-filter_map (λ (mark : RawMark). Unit {0}) (λ m. is_cell m.cell ≡ true) (shifted_mark nodes shift) (λ mark _. of_shifted nodes shift mark) raw (all_anyway raw)
 
 -- the cells that are looked for are cells
 pub are_wanted : (nodes : List Coordinates) (shift : ℕ) (raw : List RawMark) (marks : List CellMark) (wanted : List Cell) → marks ≡ filter_map (shifted_mark nodes shift) raw
