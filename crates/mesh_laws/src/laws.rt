@@ -1,0 +1,28 @@
+//! Each law is the contract of a function that does nothing.
+ghost use Rattle.mesh_laws.specs.Covers.{CoverStaysAtMost, SameCoverIsHandedOn};
+ghost use Rattle.mesh_laws.specs.Points.{OnlyPointsAreInside, PointsMoveOffFaces, PointsMoveOffPlanes};
+
+/// A point can be moved off planes, and keeps the strict sides that it has.
+pub fn points_move_off_planes()
+    ensures { PointsMoveOffPlanes }
+{}
+
+/// It can be moved off closed faces, and stays within tetrahedra or without.
+pub fn points_move_off_faces()
+    ensures { PointsMoveOffFaces }
+{}
+
+/// Only what stands for a point is within a tetrahedron.
+pub fn only_points_are_inside()
+    ensures { OnlyPointsAreInside }
+{}
+
+/// A bound of the cover off closed faces bounds it on them too.
+pub fn cover_stays_at_most()
+    ensures { CoverStaysAtMost }
+{}
+
+/// The same cover is handed on from list to list.
+pub fn same_cover_is_handed_on()
+    ensures { SameCoverIsHandedOn }
+{}
