@@ -2,3 +2,5 @@ pub mod Lists
 pub mod Weights
 pub mod Moved
 pub mod MovedOff
+pub mod OneSide
+pub mod BothSides

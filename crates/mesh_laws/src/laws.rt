@@ -1,6 +1,7 @@
 //! Each law is the contract of a function that does nothing.
 ghost use Rattle.mesh_laws.specs.Covers.{CoverStaysAtMost, SameCoverIsHandedOn};
 ghost use Rattle.mesh_laws.specs.Points.{OnlyPointsAreInside, PointsMoveOffFaces, PointsMoveOffPlanes};
+ghost use Rattle.mesh_laws.specs.Sides.{NoFaceHasThree, OnceLieOnBothSides, OneSideHasCommonPoint, TetrahedronHasPoint};
 
 /// A point can be moved off planes, and keeps the strict sides that it has.
 pub fn points_move_off_planes()
@@ -25,4 +26,24 @@ pub fn cover_stays_at_most()
 /// The same cover is handed on from list to list.
 pub fn same_cover_is_handed_on()
     ensures { SameCoverIsHandedOn }
+{}
+
+/// Tetrahedra on one side of a face that they share have a common point, off any planes.
+pub fn one_side_has_common_point()
+    ensures { OneSideHasCommonPoint }
+{}
+
+/// A tetrahedron that isn't flat has a point within it.
+pub fn tetrahedron_has_point()
+    ensures { TetrahedronHasPoint }
+{}
+
+/// Tetrahedra that share a face and no point lie on both sides of it.
+pub fn once_lie_on_both_sides()
+    ensures { OnceLieOnBothSides }
+{}
+
+/// So no face is shared by three.
+pub fn no_face_has_three()
+    ensures { NoFaceHasThree }
 {}
