@@ -4,3 +4,5 @@ pub mod Moved
 pub mod MovedOff
 pub mod OneSide
 pub mod BothSides
+pub mod Keyed
+pub mod Oddly

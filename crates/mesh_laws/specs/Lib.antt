@@ -1,3 +1,4 @@
 pub mod Points
 pub mod Covers
 pub mod Sides
+pub mod Parity

@@ -1,5 +1,6 @@
 //! Each law is the contract of a function that does nothing.
 ghost use Rattle.mesh_laws.specs.Covers.{CoverStaysAtMost, SameCoverIsHandedOn};
+ghost use Rattle.mesh_laws.specs.Parity.{OddFacesDecideParity};
 ghost use Rattle.mesh_laws.specs.Points.{OnlyPointsAreInside, PointsMoveOffFaces, PointsMoveOffPlanes};
 ghost use Rattle.mesh_laws.specs.Sides.{NoFaceHasThree, OnceLieOnBothSides, OneSideHasCommonPoint, TetrahedronHasPoint};
 
@@ -46,4 +47,9 @@ pub fn once_lie_on_both_sides()
 /// So no face is shared by three.
 pub fn no_face_has_three()
     ensures { NoFaceHasThree }
+{}
+
+/// What is listed twice doesn't matter to whether an odd number of faces pass a test.
+pub fn odd_faces_decide_parity()
+    ensures { OddFacesDecideParity }
 {}
