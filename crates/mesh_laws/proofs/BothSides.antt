@@ -1,5 +1,5 @@
 -- Where no point is within two tetrahedra, those that share a face lie on both sides of it, and so no face has three.
-use Rattle.std.proofs.Common.{◌≡◌, ◌≢◌, ℕ, zero, suc, ◌+◌, ◌<◌, ◌≤◌, ◌⊎◌, ⊎_elim, Bool, true, false, cond, ◌||◌, List, [], ◌∷◌, length, get_or, refl, sym, ap, subst, ◌∙◌, arith}
+use Rattle.std.proofs.Common.{◌≡◌, ◌≢◌, ℕ, suc, ◌+◌, ◌≤◌, ◌⊎◌, ⊎_elim, Bool, true, false, cond, ◌||◌, List, [], ◌∷◌, refl, sym, ap, subst, ◌∙◌, arith}
 use Rattle.std.specs.Prelude.{ℤ, pos, neg_ℤ}
 use Rattle.std.specs.Cmp.{Equal-is, tied_itself}
 use Rattle.std.specs.Cmp.Lexicographic.{lists_total, slice_cmp}
@@ -17,13 +17,13 @@ use Rattle.ma_geom.specs.Volume.{vol6}
 use Rattle.ma_geom.proofs.PlaceOrder.{place_cmp-IsAntisymmetric, place_cmp_total}
 use Rattle.ma_cells.specs.Ascending.{has}
 use Rattle.ma_cells.specs.Faces.{faces_of}
-use Rattle.ma_cells.specs.Tetrahedron.{Tetrahedron, is_flat}
+use Rattle.ma_cells.specs.Tetrahedron.{is_flat}
+use Rattle.ma_cells.proofs.Passing.{all_by_index, all_from_index}
 use Rattle.ma_cells.proofs.Pieces.{solid_corners}
-use Rattle.ma_cover.specs.Cover.{whole_cover}
 use Rattle.ma_cover.specs.Inside.{are_alike, is_inside}
 use Rattle.ma_cover.specs.Sound.{LieOnBothSides}
 use Rattle.ma_cover.proofs.Exchanges.{inside_in_any_order}
-use Rattle.mesh_laws.specs.Sides.{NoFaceHasThree, OnceLieOnBothSides, whole_holders}
+use Rattle.mesh_laws.specs.Sides.{NoFaceHasThree, OnceLieOnBothSides}
 use Rattle.mesh_laws.proofs.Lists.{count-cons, count-none}
 use Rattle.mesh_laws.proofs.MovedOff.{NoneIsFlat, corners_of, cover_stays_at_most}
 use Rattle.mesh_laws.proofs.OneSide.{one_side}
@@ -57,20 +57,12 @@ Pairs R (x ∷ xs) = AllByRecursion (R x) xs × Pairs R xs
 module _ {X : Type 0} (R : X → X → Type 0) where
   pub pairs_from : (xs : List X) → AllPairs R xs → Pairs R xs
   pairs_from [] h = tt
-  pairs_from (x ∷ xs) h = (each xs (λ j d below. h 0 (suc j) d (omega arith) (omega arith)), pairs_from xs (λ i j d before below. h (suc i) (suc j) d (omega arith) (omega arith)))
-    where
-      each : (ys : List X) → ((j : ℕ) (d : X) → j < length ys → R x (get_or ys j d)) → AllByRecursion (R x) ys
-      each [] h = tt
-      each (y ∷ ys) h = (h 0 y (omega arith), each ys (λ j d below. h (suc j) d (omega arith)))
+  pairs_from (x ∷ xs) h =
+      (all_from_index (R x) xs (λ j d below. h 0 (suc j) d (omega arith) (omega arith)), pairs_from xs (λ i j d before below. h (suc i) (suc j) d (omega arith) (omega arith)))
 
   pub pairs_to : (xs : List X) → Pairs R xs → AllPairs R xs
   pairs_to [] h i j d before below = absurd (omega arith)
-  pairs_to (x ∷ xs) h i j d before below = AllPairs-cons R x xs (at xs h.0) (pairs_to xs h.1) i j d before below
-    where
-      at : (ys : List X) → AllByRecursion (R x) ys → (j : ℕ) (d : X) → j < length ys → R x (get_or ys j d)
-      at [] h j d below = absurd (omega arith)
-      at (y ∷ ys) h zero d below = h.0
-      at (y ∷ ys) h (suc j) d below = at ys h.1 j d (omega arith)
+  pairs_to (x ∷ xs) h i j d before below = AllPairs-cons R x xs (all_by_index (R x) xs h.0) (pairs_to xs h.1) i j d before below
 
 -- where no three items that pass a test are related, at most two of related items pass
 module _ {X : Type 0} (P : X → Type 0) (R : X → X → Type 0) (test : X → Bool)

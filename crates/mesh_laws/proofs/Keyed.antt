@@ -8,6 +8,10 @@ abbrev pub total : {X A : Type 0} → A → (A → A → A) → (X → A) → Li
 total none plus f [] = none
 total none plus f (x ∷ xs) = plus (f x) (total none plus f xs)
 
+-- what an item with a key has, and none for another
+abbrev pub at : {X K A : Type 0} → A → (X → K) → (K → K → Bool) → K → (X → A) → X → A
+at none key same k f x = cond (same k (key x)) (f x) none
+
 -- sums of any kind whose terms may be regrouped
 module _ {A : Type 0} (none : A) (plus : A → A → A) (left : (a : A) → plus none a ≡ a) (right : (a : A) → plus a none ≡ a)
     (regroup : (a b c d : A) → plus (plus a b) (plus c d) ≡ plus (plus a c) (plus b d)) where
@@ -27,28 +31,28 @@ module _ {A : Type 0} (none : A) (plus : A → A → A) (left : (a : A) → plus
     total-none f (x ∷ xs) h = ap₂ plus h.0 (total-none f xs h.1) ∙ left none
 
   module _ {X K : Type 0} (key : X → K) (same : K → K → Bool) (same_is : (k l : K) → same k l ≡ true → k ≡ l) (same_itself : (k : K) → same k k ≡ true) where
-    -- the items with a key, and the others
-    abbrev pub at : K → (X → A) → X → A
-    at k f x = cond (same k (key x)) (f x) none
+    abbrev with_key : K → (X → A) → X → A
+    with_key = at none key same
 
+    -- what the others have
     abbrev without : K → (X → A) → X → A
     without k f x = cond (same k (key x)) none (f x)
 
     abbrev sum : (X → A) → List X → A
     sum = total none plus
 
-    split : (k : K) (f : X → A) (xs : List X) → sum f xs ≡ plus (sum (at k f) xs) (sum (without k f) xs)
+    split : (k : K) (f : X → A) (xs : List X) → sum f xs ≡ plus (sum (with_key k f) xs) (sum (without k f) xs)
     split k f [] = sym (left none)
     split k f (x ∷ xs) =
         ap₂ plus (one (same k (key x)) (f x)) (split k f xs)
-        ∙ regroup (at k f x) (without k f x) (sum (at k f) xs) (sum (without k f) xs)
+        ∙ regroup (with_key k f x) (without k f x) (sum (with_key k f) xs) (sum (without k f) xs)
       where
         one : (b : Bool) (a : A) → a ≡ plus (cond b a none) (cond b none a)
         one true a = sym (right a)
         one false a = sym (left a)
 
     -- with one key left out, the sums over the others are as before
-    still : (j k : K) (f : X → A) (xs : List X) → sum (at j (without k f)) xs ≡ cond (same k j) none (sum (at j f) xs)
+    still : (j k : K) (f : X → A) (xs : List X) → sum (with_key j (without k f)) xs ≡ cond (same k j) none (sum (with_key j f) xs)
     still j k f xs = by (same k j) refl
       where
         one : (s t : Bool) (a : A) → (s ≡ true → t ≡ true) → cond s (cond t none a) none ≡ none
@@ -65,9 +69,9 @@ module _ {A : Type 0} (none : A) (plus : A → A → A) (left : (a : A) → plus
         each h [] = tt
         each h (x ∷ xs) = (h x, each h xs)
 
-        by : (b : Bool) → same k j ≡ b → sum (at j (without k f)) xs ≡ cond b none (sum (at j f) xs)
-        by true e = total-none (at j (without k f)) xs (each (λ x. one (same j (key x)) (same k (key x)) (f x) (λ h. sym (ap (same k) (same_is j (key x) h)) ∙ e)) xs)
-        by false e = total-each (at j (without k f)) (at j f) xs (each (λ x. other (same j (key x)) (same k (key x)) (f x) (λ h. sym (ap (same k) (same_is j (key x) h)) ∙ e)) xs)
+        by : (b : Bool) → same k j ≡ b → sum (with_key j (without k f)) xs ≡ cond b none (sum (with_key j f) xs)
+        by true e = total-none (with_key j (without k f)) xs (each (λ x. one (same j (key x)) (same k (key x)) (f x) (λ h. sym (ap (same k) (same_is j (key x) h)) ∙ e)) xs)
+        by false e = total-each (with_key j (without k f)) (with_key j f) xs (each (λ x. other (same j (key x)) (same k (key x)) (f x) (λ h. sym (ap (same k) (same_is j (key x) h)) ∙ e)) xs)
 
     -- all keys of a list left out
     abbrev dropped : List X → (X → A) → X → A
@@ -88,7 +92,7 @@ module _ {A : Type 0} (none : A) (plus : A → A → A) (left : (a : A) → plus
 
     -- that the sums over each item's key are alike
     abbrev pub AreAlike : (X → A) → List X → List X → List X → Type 0
-    AreAlike f xs ys zs = AllByRecursion (λ z. sum (at (key z) f) xs ≡ sum (at (key z) f) ys) zs
+    AreAlike f xs ys zs = AllByRecursion (λ z. sum (at none key same (key z) f) xs ≡ sum (at none key same (key z) f) ys) zs
 
     module _ (xs ys : List X) where
       still_alike : (k : K) (f : X → A) (zs : List X) → AreAlike f xs ys zs → AreAlike (without k f) xs ys zs

@@ -6,3 +6,5 @@ pub mod OneSide
 pub mod BothSides
 pub mod Keyed
 pub mod Oddly
+pub mod Regions
+pub mod Sounds

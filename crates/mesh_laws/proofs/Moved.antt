@@ -1,12 +1,12 @@
 -- Near each point there is one that is off the planes of any triangles of a list, and on the sides where the first is.
-use Rattle.std.proofs.Common.{◌≡◌, ◌≢◌, ⊎_elim, ℕ, zero, suc, ◌+◌, ◌<◌, true, false, ◌&&◌, List, [], ◌∷◌, refl, sym, ap, subst, ◌∙◌, arith}
+use Rattle.std.proofs.Common.{◌≡◌, ◌≢◌, ⊎_elim, ℕ, zero, suc, ◌+◌, ◌<◌, true, ◌&&◌, List, [], ◌∷◌, refl, sym, subst, ◌∙◌, arith}
 use Rattle.std.specs.Prelude.{ℤ, pos, negsuc, ◌+ℤ◌, ◌-ℤ◌, ◌*ℤ◌, ◌<ℤ◌, ◌≤ℤ◌, unsigned_abs}
 use Rattle.std.specs.List.{AllByRecursion}
 use Rattle.std.specs.Ordering.{int_eq}
 use Rattle.std.proofs.lemmas.Bool.{false≢true}
 use Rattle.std.proofs.lemmas.Int.{ints}
 use Rattle.ma_geom.specs.Coordinates.{Coordinates}
-use Rattle.ma_geom.specs.Lines.{collinear, is_zero, normal}
+use Rattle.ma_geom.specs.Lines.{is_zero, normal}
 use Rattle.ma_geom.specs.Rational.{IsPoint, Rational, side}
 use Rattle.ma_geom.proofs.Integers.{positive-*ℤ}
 use Rattle.ma_geom.proofs.Reified.{Quadruple, place, point, point_and_places, side', cross', minus'}

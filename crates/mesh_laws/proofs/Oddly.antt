@@ -3,7 +3,6 @@ use Rattle.std.proofs.Common.{◌≡◌, ◌⊎◌, inl, inr, ℕ, zero, suc, �
 use Rattle.std.specs.Prelude.{not}
 use Rattle.std.specs.List.{AllByRecursion, count_by, flat_map}
 use Rattle.std.proofs.lemmas.Bool.{and_parts, false≢true}
-use Rattle.ma_geom.specs.Coordinates.{Coordinates}
 use Rattle.mesh_laws.specs.Parity.{OddFacesDecideParity, is_odd}
 use Rattle.mesh_laws.proofs.BothSides.{same, same_is, same_itself}
 use Rattle.mesh_laws.proofs.Keyed.{at, total, total-alike, total-append, total-each, total-none}
@@ -99,7 +98,7 @@ module _ {X K : Type 0} (key : X → K) (same : K → K → Bool) (same_is : (k 
   odd_key k xs = odd_of (λ x. same k (key x)) xs
 
   -- those of a key pass together
-  of_key : (f : K → Bool) (k : K) (xs : List X) → odd_of (at false xor (λ a. refl) xor_none xor_regroup key same same_is same_itself k (λ x. f (key x))) xs ≡ (f k && odd_key k xs)
+  of_key : (f : K → Bool) (k : K) (xs : List X) → odd_of (at false key same k (λ x. f (key x))) xs ≡ (f k && odd_key k xs)
   of_key f k [] = by (f k)
     where
       by : (b : Bool) → false ≡ (b && false)
@@ -119,8 +118,8 @@ module _ {X K : Type 0} (key : X → K) (same : K → K → Bool) (same_is : (k 
 
   module _ (f : K → Bool) where
     alike_by : (xs ys zs : List X) → AllByRecursion (λ z. (f (key z) && odd_key (key z) xs) ≡ (f (key z) && odd_key (key z) ys)) zs
-        → AllByRecursion (λ z. odd_of (at false xor (λ a. refl) xor_none xor_regroup key same same_is same_itself (key z) (λ x. f (key x))) xs
-            ≡ odd_of (at false xor (λ a. refl) xor_none xor_regroup key same same_is same_itself (key z) (λ x. f (key x))) ys) zs
+        → AllByRecursion (λ z. odd_of (at false key same (key z) (λ x. f (key x))) xs
+        ≡ odd_of (at false key same (key z) (λ x. f (key x))) ys) zs
     alike_by xs ys [] h = tt
     alike_by xs ys (z ∷ zs) h = (of_key f (key z) xs ∙ h.0 ∙ sym (of_key f (key z) ys), alike_by xs ys zs h.1)
 

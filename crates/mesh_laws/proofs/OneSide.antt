@@ -1,18 +1,16 @@
 -- Two tetrahedra that share a face and lie on one side of it have a point in common.
-use Rattle.std.proofs.Common.{◌≡◌, ◌≢◌, ℕ, zero, suc, ◌+◌, ◌<◌, ◌⊎◌, ⊎_elim, Bool, true, false, ◌&&◌, List, [], ◌∷◌, ◌++◌, refl, sym, ap, subst, ◌∙◌, arith}
+use Rattle.std.proofs.Common.{◌≡◌, ◌≢◌, ℕ, zero, suc, ◌<◌, ◌⊎◌, ⊎_elim, Bool, true, false, ◌&&◌, List, [], ◌∷◌, ◌++◌, refl, sym, ap, subst, ◌∙◌, arith}
 use Rattle.std.specs.Prelude.{ℤ, pos, negsuc, ◌+ℤ◌, ◌*ℤ◌, ◌<ℤ◌, ◌≤ℤ◌, unsigned_abs}
-use Rattle.std.specs.List.{AllByRecursion}
 use Rattle.std.specs.Ordering.{int_eq}
 use Rattle.std.proofs.lemmas.Int.{ints}
 use Rattle.ma_geom.specs.Coordinates.{Coordinates}
 use Rattle.ma_geom.specs.Lines.{normal}
-use Rattle.ma_geom.specs.Rational.{IsPoint, Rational, side}
+use Rattle.ma_geom.specs.Rational.{Rational, side}
 use Rattle.ma_geom.specs.Volume.{dot, minus, vol6}
 use Rattle.ma_geom.proofs.Identities.{dot_self, dot_squared}
 use Rattle.ma_geom.proofs.Reified.{Triple, Quadruple, place, places, side', cross', minus', dot', vol6'}
 use Rattle.ma_geom.proofs.Ring.{con, ◌⊕◌, ◌⊗◌, ring}
 use Rattle.ma_cells.specs.Faces.{faces_of}
-use Rattle.ma_cells.specs.Tetrahedron.{is_flat}
 use Rattle.ma_cells.proofs.Passing.{all_weaker}
 use Rattle.ma_cover.specs.Inside.{are_alike, is_inside}
 use Rattle.ma_cover.proofs.OffFaces.{inside_is_off_faces}
@@ -21,7 +19,7 @@ use Rattle.mesh_laws.specs.Sides.{IsOffPlane, OneSideHasCommonPoint, Tetrahedron
 use Rattle.mesh_laws.proofs.Lists.{all_split}
 use Rattle.mesh_laws.proofs.Moved.{alike_multiple, bound, points_move_off_planes}
 use Rattle.mesh_laws.proofs.MovedOff.{moved_off}
-use Rattle.mesh_laws.proofs.Weights.{alike_itself, alike_some, by_four, inside_is_point, is_or_not, some_a, some_b, some_c}
+use Rattle.mesh_laws.proofs.Weights.{alike_itself, alike_some, by_four, inside_is_point, some_a, some_b, some_c}
 
 -- ---- a point close to the middle of the triangle u v w, off its plane if s isn't zero
 abbrev beyond : ℤ → ℤ → Coordinates → Coordinates → Coordinates → Rational

@@ -8,9 +8,9 @@ use Rattle.std.proofs.lemmas.Int.{ints}
 use Rattle.ma_geom.specs.Coordinates.{Coordinates}
 use Rattle.ma_geom.specs.Rational.{IsPoint, Rational, side}
 use Rattle.ma_geom.specs.Volume.{vol6}
-use Rattle.ma_geom.proofs.Identities.{cramer_x, cramer_y, cramer_z, flat_exchange_bc, flat_exchange_cd, side_exchange_bc, side_turn, sides_sum, vol6_exchange_bc, vol6_exchange_cd, vol6_turn_abc, vol6_turn_bcd}
+use Rattle.ma_geom.proofs.Identities.{cramer_x, cramer_y, cramer_z, flat_exchange_cd, side_exchange_bc, side_turn, sides_sum, vol6_exchange_bc, vol6_exchange_cd, vol6_turn_abc, vol6_turn_bcd}
 use Rattle.ma_geom.proofs.Integers.{positive_factor}
-use Rattle.ma_geom.proofs.Ring.{var, con, neg, ◌⊕◌, ◌⊖◌, ◌⊗◌, entry, ring}
+use Rattle.ma_geom.proofs.Ring.{var, neg, ◌⊕◌, ◌⊖◌, ◌⊗◌, entry, ring}
 use Rattle.ma_cells.specs.Tetrahedron.{is_flat}
 use Rattle.ma_cover.specs.Inside.{are_alike, is_beside, is_inside}
 use Rattle.ma_cover.specs.OnFaces.{IsOffFacesOf, IsOnTriangle}

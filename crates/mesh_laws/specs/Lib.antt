@@ -2,3 +2,4 @@ pub mod Points
 pub mod Covers
 pub mod Sides
 pub mod Parity
+pub mod Sounds

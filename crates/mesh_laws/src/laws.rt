@@ -1,8 +1,9 @@
 //! Each law is the contract of a function that does nothing.
-ghost use Rattle.mesh_laws.specs.Covers.{CoverStaysAtMost, SameCoverIsHandedOn};
+ghost use Rattle.mesh_laws.specs.Covers.{CoverStaysAtMost, RegionsGiveWholeCover, SameCoverIsHandedOn, SameCoverStaysAtMost};
 ghost use Rattle.mesh_laws.specs.Parity.{OddFacesDecideParity};
 ghost use Rattle.mesh_laws.specs.Points.{OnlyPointsAreInside, PointsMoveOffFaces, PointsMoveOffPlanes};
 ghost use Rattle.mesh_laws.specs.Sides.{NoFaceHasThree, OnceLieOnBothSides, OneSideHasCommonPoint, TetrahedronHasPoint};
+ghost use Rattle.mesh_laws.specs.Sounds.{ConformingOddAreMarked, OddMarkedIsSound, SameCoverStaysSound, SoundAsSets, SoundCoversOnce, SoundFaceHasTwo, SoundIsListedOnce};
 
 /// A point can be moved off planes, and keeps the strict sides that it has.
 pub fn points_move_off_planes()
@@ -52,4 +53,49 @@ pub fn no_face_has_three()
 /// What is listed twice doesn't matter to whether an odd number of faces pass a test.
 pub fn odd_faces_decide_parity()
     ensures { OddFacesDecideParity }
+{}
+
+/// The covers of all regions give the whole cover.
+pub fn regions_give_whole_cover()
+    ensures { RegionsGiveWholeCover }
+{}
+
+/// What covers the same as a list with a bound keeps the bound.
+pub fn same_cover_stays_at_most()
+    ensures { SameCoverStaysAtMost }
+{}
+
+/// A sound mesh covers each point at most once.
+pub fn sound_covers_once()
+    ensures { SoundCoversOnce }
+{}
+
+/// No two of its tetrahedra have the same corners.
+pub fn sound_is_listed_once()
+    ensures { SoundIsListedOnce }
+{}
+
+/// It is sound as sets.
+pub fn sound_as_sets()
+    ensures { SoundAsSets }
+{}
+
+/// At most two of its tetrahedra have a face.
+pub fn sound_face_has_two()
+    ensures { SoundFaceHasTwo }
+{}
+
+/// In a conforming mesh a face that an odd number of tetrahedra of a region have is marked.
+pub fn conforming_odd_are_marked()
+    ensures { ConformingOddAreMarked }
+{}
+
+/// A mesh without a point within two tetrahedra is sound, if such faces are marked and its marks are on cells.
+pub fn odd_marked_is_sound()
+    ensures { OddMarkedIsSound }
+{}
+
+/// So is one that covers the same as a sound mesh.
+pub fn same_cover_stays_sound()
+    ensures { SameCoverStaysSound }
 {}
