@@ -1,0 +1,5 @@
+pub mod Points
+pub mod Covers
+pub mod Sides
+pub mod Parity
+pub mod Sounds
