@@ -3,10 +3,10 @@ use Rattle.ma_cells.specs.declared.batch.Batch.{Batch}
 use Rattle.ma_cells.specs.Grid.{mesh_is_on_grid}
 use Rattle.one_mesh.specs.Holding.{Holding}
 use Rattle.ma_cells.specs.Tetrahedron.{are_tetrahedra}
-use Rattle.one_mesh.specs.Laws.{KeepsCover}
-use Rattle.one_mesh.proofs.Covered.{refinement_keeps_cover}
-use Rattle.one_mesh.proofs.Gridded.{refinement_halves_the_grid}
-use Rattle.one_mesh.proofs.NotFlat.{refinement_is_not_flat}
+use Rattle.refinement.specs.Laws.{KeepsCover}
+use Rattle.refinement.proofs.Covered.{refinement_keeps_cover}
+use Rattle.refinement.proofs.Gridded.{refinement_halves_the_grid}
+use Rattle.refinement.proofs.NotFlat.{refinement_is_not_flat}
 use Rattle.one_mesh.proofs.store.OneMesh.refine.Goals as goal
 
 pub invariant_of-self : goal.invariant_of-self
