@@ -8,3 +8,4 @@ pub mod Keyed
 pub mod Oddly
 pub mod Regions
 pub mod Sounds
+pub mod Adapted

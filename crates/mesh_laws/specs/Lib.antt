@@ -3,3 +3,4 @@ pub mod Covers
 pub mod Sides
 pub mod Parity
 pub mod Sounds
+pub mod Adapted

@@ -1,22 +1,17 @@
 -- Refinement keeps cover: of a tetrahedron, and of a mesh.
-use Rattle.std.proofs.Common.{◌≡◌, ◌≢◌, ◌+◌, ◌≤◌, Bool, true, false, cond, ◌&&◌, List, [], ◌∷◌, Some, None, refl, sym, ap, ◌∙◌, arith}
+use Rattle.std.proofs.Common.{◌≡◌, ◌≢◌, ◌+◌, ◌≤◌, Bool, true, false, cond, ◌&&◌, List, [], ◌∷◌, ◌∙◌, arith}
 use Rattle.std.specs.Prelude.{ℤ, map}
-use Rattle.std.specs.Cmp.{tied_itself}
 use Rattle.std.specs.FinMap.{slice_cmp-IsAntisymmetric}
 use Rattle.std.specs.List.{AllByRecursion, count_by, flat_map}
-use Rattle.std.specs.Ordering.{int_eq, is_lt}
+use Rattle.std.specs.Ordering.{int_eq}
 use Rattle.std.proofs.lemmas.Bool.{false≢true}
-use Rattle.ma_geom.specs.Coordinates.{Coordinates, place_cmp}
-use Rattle.ma_geom.specs.Midpoints.{midpoint}
-use Rattle.ma_geom.specs.Rational.{Rational}
-use Rattle.ma_geom.proofs.PlaceOrder.{place_cmp-IsAntisymmetric, place_cmp_total}
-use Rattle.ma_cells.specs.Ascending.{are_ascending, ascending_of}
+use Rattle.ma_geom.specs.Coordinates.{Coordinates}
+use Rattle.ma_geom.specs.Rational.{IsMiddle, Rational}
+use Rattle.ma_geom.proofs.PlaceOrder.{place_cmp-IsAntisymmetric}
 use Rattle.ma_cells.specs.Bisection.{bisect}
-use Rattle.ma_cells.specs.Faces.{edges_of}
 use Rattle.ma_cells.specs.Tetrahedron.{Tetrahedron, are_corners, are_tetrahedra}
 use Rattle.ma_cells.specs.declared.batch.Batch.{Batch}
 use Rattle.ma_cells.proofs.CellOrders.{tet_cmp-IsAntisymmetric}
-use Rattle.ma_cells.proofs.Choices.{choices-ascend}
 use Rattle.ma_cells.proofs.Corners.{corners_rise}
 use Rattle.ma_cover.specs.Inside.{is_inside}
 use Rattle.ma_cover.specs.OnFaces.{IsOffFacesOf}
@@ -24,92 +19,67 @@ use Rattle.ma_cover.proofs.Covers.{bisect_inside}
 use Rattle.ma_cells.proofs.Pieces.{pieces_are_corners}
 use Rattle.ma_cover.proofs.WholeFaces.{off_pieces_is_off_whole}
 use Rattle.size_marks.specs.Field.{Field}
-use Rattle.split_templates.specs.Edges.{edge_cmp, is_long_edge}
-use Rattle.split_templates.specs.Pieces.{bisected_along, halves, halves_at, pieces_of}
-use Rattle.split_templates.proofs.Middles.{midpoint-IsMiddle}
+use Rattle.split_templates.specs.Pieces.{bisected_along, pieces_of}
 use Rattle.refinement.specs.Laws.{RefinementKeepsCover, RefinementKeepsFaces}
 use Rattle.refinement.specs.Refinement.{long_edges, refine, refined_tet}
 use Rattle.refinement.proofs.Counts.{all_of_map, count-map, count-none, count-weaker}
-use Rattle.ma_cells.proofs.Passing.{all-filter, all-map, all_pass}
-use Rattle.refinement.proofs.Keeping.{Keeps, keeps-each, keeps-itself, keeps-next, keeps-set}
-use Rattle.ma_cells.proofs.SetItems.{all-ascending_of}
-
--- ---- edges with their ends in ascending order
-abbrev Rises : List Coordinates → Type 0
-Rises edge = are_ascending place_cmp edge ≡ true
-
-ends_differ : (a b : Coordinates) → Rises (a ∷ b ∷ []) → a ≢ b
-ends_differ a b rises e =
-    let tie : (is_lt (place_cmp a b) && true) ≡ false = ap (λ t. is_lt (place_cmp a t) && true) (sym e) ∙ ap (λ r. is_lt r && true) (tied_itself place_cmp_total a) in
-    false≢true (sym tie ∙ rises)
-
-long_edges_rise : (field : Field) (corners : List Coordinates) → are_corners corners ≡ true → AllByRecursion Rises (long_edges field corners)
-long_edges_rise field corners are =
-    all-filter Rises (is_long_edge field) (edges_of corners) (all_pass (are_ascending place_cmp) (edges_of corners) (choices-ascend place_cmp_total 2 corners (corners_rise corners are)))
+use Rattle.ma_cells.proofs.Passing.{all-map, all_pass}
+use Rattle.refinement.proofs.Bisecting.{bisected, own_edges, own_edges_rise, so_along}
+use Rattle.refinement.proofs.Rising.{Rises}
+use Rattle.refinement.proofs.Keeping.{Keeps, keeps-append, keeps-each, keeps-itself, keeps-next, keeps-set}
 
 -- ---- the pieces of four corners
-abbrev AreCorners : List Coordinates → Type 0
+abbrev pub AreCorners : List Coordinates → Type 0
 AreCorners corners = are_corners corners ≡ true
 
+pub halves_are_corners : (m a b : Coordinates) → IsMiddle m a b → a ≢ b → (corners : List Coordinates) → AreCorners corners → AllByRecursion AreCorners (bisect a b m corners)
+halves_are_corners m a b middle differ corners are = all_pass are_corners (bisect a b m corners) (pieces_are_corners m a b corners middle differ are)
+
 module _ (p : Rational) where
-  abbrev KeepsInside : List (List Coordinates) → List (List Coordinates) → Type 0
+  abbrev pub KeepsInside : List (List Coordinates) → List (List Coordinates) → Type 0
   KeepsInside = Keeps AreCorners (IsOffFacesOf p) (is_inside p)
 
   whole_cell : (corners : List Coordinates) → AreCorners corners → KeepsInside (corners ∷ []) (corners ∷ [])
   whole_cell corners are = keeps-itself AreCorners (IsOffFacesOf p) (is_inside p) (corners ∷ []) (are, tt)
 
-  halves_keep : (edge : List Coordinates) → Rises edge → (corners : List Coordinates) → AreCorners corners → KeepsInside (corners ∷ []) (halves edge corners)
-  halves_keep [] rises corners are = whole_cell corners are
-  halves_keep (a ∷ []) rises corners are = whole_cell corners are
-  halves_keep (a ∷ b ∷ []) rises corners are =
-      elim (midpoint a b) as (λ o. midpoint a b ≡ o → KeepsInside (corners ∷ []) (halves_at a b o corners)) [
-        | Some m ↦ λ is.
-            let middle = midpoint-IsMiddle a b m is in
-            let differ = ends_differ a b rises in
-            record {
-              not_flat = all_pass are_corners (bisect a b m corners) (pieces_are_corners m a b corners middle differ are);
-              off = λ off. (off_pieces_is_off_whole p m a b corners middle differ are off, tt);
-              count = λ _ off. bisect_inside p m a b corners middle differ are off;
-            }
-        | None ↦ λ _. whole_cell corners are
-      ] refl
-  halves_keep (a ∷ b ∷ c ∷ edge) rises corners are = whole_cell corners are
+  halved_keep : (m a b : Coordinates) → IsMiddle m a b → a ≢ b → (corners : List Coordinates) → AreCorners corners → KeepsInside (corners ∷ []) (bisect a b m corners)
+  halved_keep m a b middle differ corners are = record {
+    not_flat = halves_are_corners m a b middle differ corners are;
+    off = λ off. (off_pieces_is_off_whole p m a b corners middle differ are off, tt);
+    count = λ _ off. bisect_inside p m a b corners middle differ are off;
+  }
 
-  bisected_keep : (edges : List (List Coordinates)) → AllByRecursion Rises edges → (cells : List (List Coordinates)) → AllByRecursion AreCorners cells
+  pub bisected_keep : (edges : List (List Coordinates)) → AllByRecursion Rises edges → (cells : List (List Coordinates)) → AllByRecursion AreCorners cells
       → KeepsInside cells (bisected_along edges cells)
-  bisected_keep [] rise cells are = keeps-itself AreCorners (IsOffFacesOf p) (is_inside p) cells are
-  bisected_keep (edge ∷ edges) rise cells are =
-      let parts = flat_map (halves edge) cells in
-      let first : KeepsInside cells parts = keeps-each AreCorners (IsOffFacesOf p) (is_inside p) (halves edge) (halves_keep edge rise.0) cells are in
-      keeps-next AreCorners (IsOffFacesOf p) (is_inside p) cells parts (bisected_along edges parts) first (bisected_keep edges rise.1 parts first.not_flat)
+  bisected_keep =
+      so_along AreCorners halves_are_corners KeepsInside (keeps-itself AreCorners (IsOffFacesOf p) (is_inside p) [] tt) whole_cell
+      (keeps-append AreCorners (IsOffFacesOf p) (is_inside p)) (keeps-next AreCorners (IsOffFacesOf p) (is_inside p)) halved_keep
 
-  pieces_keep : (marked : List (List Coordinates)) → AllByRecursion Rises marked → (corners : List Coordinates) → AreCorners corners
-      → KeepsInside (corners ∷ []) (pieces_of marked corners)
-  pieces_keep marked rise corners are =
-      let edges = ascending_of edge_cmp marked in
-      keeps-set AreCorners (IsOffFacesOf p) (is_inside p) (slice_cmp-IsAntisymmetric place_cmp-IsAntisymmetric) (corners ∷ []) (bisected_along edges (corners ∷ []))
-      (bisected_keep edges (all-ascending_of edge_cmp Rises marked rise) (corners ∷ []) (are, tt))
+  pieces_keep : (field : Field) (corners : List Coordinates) → AreCorners corners → KeepsInside (corners ∷ []) (pieces_of (long_edges field corners) corners)
+  pieces_keep field corners are =
+      keeps-set AreCorners (IsOffFacesOf p) (is_inside p) (slice_cmp-IsAntisymmetric place_cmp-IsAntisymmetric) (corners ∷ []) (bisected field corners)
+      (bisected_keep (own_edges field corners) (own_edges_rise field corners (corners_rise corners are)) (corners ∷ []) (are, tt))
 
 -- ---- the pieces of a tetrahedron, with its region
-abbrev with_corners : Tetrahedron → List Coordinates → Tetrahedron
+abbrev pub with_corners : Tetrahedron → List Coordinates → Tetrahedron
 with_corners tet corners = record tet { corners = corners }
 
-abbrev IsNotFlat : Tetrahedron → Type 0
+abbrev pub IsNotFlat : Tetrahedron → Type 0
 IsNotFlat tet = are_corners tet.corners ≡ true
 
-abbrev IsOff : Rational → Tetrahedron → Type 0
+abbrev pub IsOff : Rational → Tetrahedron → Type 0
 IsOff p tet = IsOffFacesOf p tet.corners
 
 -- the test of a tetrahedron by its region and a point
-abbrev passes : (ℤ → ℤ → Bool) → Rational → Tetrahedron → Bool
+abbrev pub passes : (ℤ → ℤ → Bool) → Rational → Tetrahedron → Bool
 passes g p tet = g tet.phys tet.elem && is_inside p tet.corners
 
-at_most_one : (b : Bool) → 0 + cond b 1 0 ≤ 1
+pub at_most_one : (b : Bool) → 0 + cond b 1 0 ≤ 1
 at_most_one true = omega arith
 at_most_one false = omega arith
 
 module _ (g : ℤ → ℤ → Bool) (p : Rational) where
-  abbrev KeepsPassing : List Tetrahedron → List Tetrahedron → Type 0
+  abbrev pub KeepsPassing : List Tetrahedron → List Tetrahedron → Type 0
   KeepsPassing = Keeps IsNotFlat (IsOff p) (passes g p)
 
   -- where the region is of no matter, or not the one that is asked for
@@ -127,10 +97,9 @@ module _ (g : ℤ → ℤ → Bool) (p : Rational) where
         ∙ region_count (g tet.phys tet.elem) tet.corners pieces (kept.count (at_most_one (is_inside p tet.corners)) (all_of_map (IsOff p) (with_corners tet) pieces off));
   }
 
-  refined_keep : (field : Field) (tet : Tetrahedron) → IsNotFlat tet → KeepsPassing (tet ∷ []) (refined_tet field tet)
+  pub refined_keep : (field : Field) (tet : Tetrahedron) → IsNotFlat tet → KeepsPassing (tet ∷ []) (refined_tet field tet)
   refined_keep field tet are =
-      let marked = long_edges field tet.corners in
-      tets_keep tet (pieces_of marked tet.corners) (pieces_keep p marked (long_edges_rise field tet.corners are) tet.corners are)
+      tets_keep tet (pieces_of (long_edges field tet.corners) tet.corners) (pieces_keep p field tet.corners are)
 
   -- ---- a mesh
   mesh_keep : (field : Field) (mesh : Batch) → are_tetrahedra mesh.tets ≡ true → KeepsPassing mesh.tets (refine field mesh).tets
@@ -139,7 +108,7 @@ module _ (g : ℤ → ℤ → Bool) (p : Rational) where
       (keeps-each IsNotFlat (IsOff p) (passes g p) (refined_tet field) (refined_keep field) mesh.tets (all_pass (λ tet. are_corners tet.corners) mesh.tets are))
 
   -- a region has no more tetrahedra with the point within them than all have
-  fewer : (tets : List Tetrahedron) → count_by (λ tet. is_inside p tet.corners) tets ≤ 1 → count_by (passes g p) tets ≤ 1
+  pub fewer : (tets : List Tetrahedron) → count_by (λ tet. is_inside p tet.corners) tets ≤ 1 → count_by (passes g p) tets ≤ 1
   fewer tets most = let less = count-weaker (passes g p) (λ tet. is_inside p tet.corners) (λ tet. second (g tet.phys tet.elem) (is_inside p tet.corners)) tets in omega arith
     where
       second : (s t : Bool) → (s && t) ≡ true → t ≡ true

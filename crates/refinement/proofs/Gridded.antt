@@ -67,57 +67,57 @@ module _ (P Q : Coordinates → Type 0) (weaker : (p : Coordinates) → P p → 
       all-ascending_of (slice_cmp place_cmp) (Corners Q) pieces (all-bisected_along (ascending_of edge_cmp marked) (corners ∷ []) in_turn (all_weaker P Q weaker corners h, tt))
 
 -- ---- places on the grids
-abbrev IsOn : ℕ → Coordinates → Type 0
-IsOn k p = is_on_grid k p ≡ true
+abbrev IsOnGrid : ℕ → Coordinates → Type 0
+IsOnGrid k p = is_on_grid k p ≡ true
 
-by_coordinates : (k : ℕ) (p : Coordinates) → IsOn k p → (is_multiple k p.x ≡ true) × (is_multiple k p.y ≡ true) × (is_multiple k p.z ≡ true)
+by_coordinates : (k : ℕ) (p : Coordinates) → IsOnGrid k p → (is_multiple k p.x ≡ true) × (is_multiple k p.y ≡ true) × (is_multiple k p.z ≡ true)
 by_coordinates k p h =
     let first = and_parts (is_multiple k p.x && is_multiple k p.y) (is_multiple k p.z) h in
     let second = and_parts (is_multiple k p.x) (is_multiple k p.y) first.0 in
     (second.0, second.1, first.1)
 
-on_grid : (k : ℕ) (p : Coordinates) → is_multiple k p.x ≡ true → is_multiple k p.y ≡ true → is_multiple k p.z ≡ true → IsOn k p
+on_grid : (k : ℕ) (p : Coordinates) → is_multiple k p.x ≡ true → is_multiple k p.y ≡ true → is_multiple k p.z ≡ true → IsOnGrid k p
 on_grid k p x y z = rw (x, y, z) refl
 
-coarser : (k : ℕ) (p : Coordinates) → IsOn (suc k) p → IsOn k p
+coarser : (k : ℕ) (p : Coordinates) → IsOnGrid (suc k) p → IsOnGrid k p
 coarser k p h =
     let on = by_coordinates (suc k) p h in
     on_grid k p (is_multiple-half k p.x on.0) (is_multiple-half k p.y on.1) (is_multiple-half k p.z on.2)
 
-middle_on : (k : ℕ) (a b m : Coordinates) → IsOn (suc k) a → IsOn (suc k) b → midpoint a b ≡ Some m → IsOn k m
+middle_on : (k : ℕ) (a b m : Coordinates) → IsOnGrid (suc k) a → IsOnGrid (suc k) b → midpoint a b ≡ Some m → IsOnGrid k m
 middle_on k a b m at_a at_b is =
     let middle = midpoint-IsMiddle a b m is in
     let on_a = by_coordinates (suc k) a at_a in
     let on_b = by_coordinates (suc k) b at_b in
     on_grid k m (is_multiple-halfway k a.x b.x m.x middle.x on_a.0 on_b.0) (is_multiple-halfway k a.y b.y m.y middle.y on_a.1 on_b.1) (is_multiple-halfway k a.z b.z m.z middle.z on_a.2 on_b.2)
 
-pieces_on : (k : ℕ) (field : Field) (corners : List Coordinates) → Corners (IsOn (suc k)) corners → AllByRecursion (Corners (IsOn k)) (pieces_of (long_edges field corners) corners)
-pieces_on k = all-pieces_of (IsOn (suc k)) (IsOn k) (coarser k) (middle_on k)
+pieces_on : (k : ℕ) (field : Field) (corners : List Coordinates) → Corners (IsOnGrid (suc k)) corners → AllByRecursion (Corners (IsOnGrid k)) (pieces_of (long_edges field corners) corners)
+pieces_on k = all-pieces_of (IsOnGrid (suc k)) (IsOnGrid k) (coarser k) (middle_on k)
 
-stays_on : (k : ℕ) (corners : List Coordinates) → Corners (IsOn (suc k)) corners → Corners (IsOn k) corners
-stays_on k = all_weaker (IsOn (suc k)) (IsOn k) (coarser k)
+stays_on : (k : ℕ) (corners : List Coordinates) → Corners (IsOnGrid (suc k)) corners → Corners (IsOnGrid k) corners
+stays_on k = all_weaker (IsOnGrid (suc k)) (IsOnGrid k) (coarser k)
 
 -- ---- cells and marks
 abbrev TetIsOn : ℕ → Tetrahedron → Type 0
-TetIsOn k tet = Corners (IsOn k) tet.corners
+TetIsOn k tet = Corners (IsOnGrid k) tet.corners
 
 abbrev CellIsOn : ℕ → Cell → Type 0
-CellIsOn k cell = Corners (IsOn k) (corners_of cell)
+CellIsOn k cell = Corners (IsOnGrid k) (corners_of cell)
 
 abbrev MarkIsOn : ℕ → CellMark → Type 0
 MarkIsOn k mark = CellIsOn k mark.cell
 
 refined_tet_on : (k : ℕ) (field : Field) (tet : Tetrahedron) → TetIsOn (suc k) tet → AllByRecursion (TetIsOn k) (refined_tet field tet)
 refined_tet_on k field tet h =
-    all-map (Corners (IsOn k)) (TetIsOn k) (λ corners. record tet { corners = corners }) (λ corners on. on) (pieces_of (long_edges field tet.corners) tet.corners) (pieces_on k field tet.corners h)
+    all-map (Corners (IsOnGrid k)) (TetIsOn k) (λ corners. record tet { corners = corners }) (λ corners on. on) (pieces_of (long_edges field tet.corners) tet.corners) (pieces_on k field tet.corners h)
 
 refined_cell_on : (k : ℕ) (field : Field) (cell : Cell) → CellIsOn (suc k) cell → AllByRecursion (CellIsOn k) (refined_cell field cell)
 refined_cell_on k field (Point p) h = (stays_on k (p ∷ []) h, tt)
-refined_cell_on k field (Seg s) h = all-map (Corners (IsOn k)) (CellIsOn k) Seg (λ corners on. on) (pieces_of (long_edges field s) s) (pieces_on k field s h)
+refined_cell_on k field (Seg s) h = all-map (Corners (IsOnGrid k)) (CellIsOn k) Seg (λ corners on. on) (pieces_of (long_edges field s) s) (pieces_on k field s h)
 refined_cell_on k field (Tri t) h =
     elim (is_straight t) as (λ b. AllByRecursion (CellIsOn k) (cond b (Tri t ∷ []) (map Tri (pieces_of (long_edges field t) t)))) [
       | true ↦ (stays_on k t h, tt)
-      | false ↦ all-map (Corners (IsOn k)) (CellIsOn k) Tri (λ corners on. on) (pieces_of (long_edges field t) t) (pieces_on k field t h)
+      | false ↦ all-map (Corners (IsOnGrid k)) (CellIsOn k) Tri (λ corners on. on) (pieces_of (long_edges field t) t) (pieces_on k field t h)
     ]
 
 refined_mark_on : (k : ℕ) (field : Field) (mark : CellMark) → MarkIsOn (suc k) mark → AllByRecursion (MarkIsOn k) (refined_mark field mark)

@@ -33,7 +33,7 @@ module _ {K : Type 0} (IsNotFlat IsOff : K → Type 0) (f : K → Bool) where
         second.count (as_few (count_by f ys) (count_by f xs) same most) h ∙ same;
   }
 
-  keeps-append : (xs ys zs ws : List K) → Kept xs zs → Kept ys ws → Kept (xs ++ ys) (zs ++ ws)
+  pub keeps-append : (xs ys zs ws : List K) → Kept xs zs → Kept ys ws → Kept (xs ++ ys) (zs ++ ws)
   keeps-append xs ys zs ws first second = record {
     not_flat = all-append IsNotFlat zs ws first.not_flat second.not_flat;
     off = λ h. all-append IsOff xs ys (first.off (all_left IsOff zs ws h)) (second.off (all_right IsOff zs ws h));

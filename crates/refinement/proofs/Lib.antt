@@ -1,4 +1,5 @@
 pub mod Rising
+pub mod Bisecting
 pub mod Marked
 pub mod NotFlat
 pub mod Multiples

@@ -57,7 +57,7 @@ fn pieces(alloc: Global, mesh: &Batch) -> Result<Vec<[Place; 4]>, Fail> {
     Ok(pieces)
 }
 
-fn marked_cells(alloc: Global, mesh: &Batch) -> Result<Vec<(Cell, i32)>, Fail> {
+fn cells_of_marks(alloc: Global, mesh: &Batch) -> Result<Vec<(Cell, i32)>, Fail> {
     let mut cells = Vec::new(alloc);
     for mark in mesh.marks.as_slice() {
         cells.push((mark.cell(), mark.elem()))?;
@@ -79,7 +79,7 @@ fn marks_are_cut_with_the_tetrahedron_but_no_triangle_on_one_line(
     ]?;
     let mesh = refined_at(rt.alloc(), 4, marks)?;
     assert_eq!(rt;
-        marked_cells(rt.alloc(), &mesh)?.as_slice(),
+        cells_of_marks(rt.alloc(), &mesh)?.as_slice(),
         [
             (Cell::Point(o), 3),
             (Cell::Seg([o, ox]), 5),
@@ -105,7 +105,7 @@ fn a_mesh_without_long_edges_stays(rt: HostRuntime) -> Result<(), Fail> {
         [[o, z, y, x]].as_slice()
     );
     assert_eq!(rt;
-        marked_cells(rt.alloc(), &mesh)?.as_slice(),
+        cells_of_marks(rt.alloc(), &mesh)?.as_slice(),
         [(Cell::Tri([z, y, x]), 7)].as_slice()
     );
     Ok(())
