@@ -1,9 +1,10 @@
 -- What holds of an item of a list, of one that items give, and of one of a set.
-use Rattle.std.proofs.Common.{◌≡◌, refl, ◌⊎◌, inl, inr, ⊎_elim, cond, List, [], ◌∷◌, ◌++◌, subst}
+use Rattle.std.proofs.Common.{◌≡◌, refl, ◌⊎◌, inl, inr, ⊎_elim, Bool, true, false, cond, ◌||◌, ap, List, [], ◌∷◌, ◌++◌, subst}
 use Rattle.std.specs.Prelude.{◌↔◌, map}
 use Rattle.std.specs.FinMap.{IsAntisymmetric}
-use Rattle.std.specs.List.{AllByRecursion, flat_map}
+use Rattle.std.specs.List.{AllByRecursion, flat_map, list_any}
 use Rattle.std.specs.Ordering.{is_eq, is_lt}
+use Rattle.std.proofs.lemmas.Bool.{false≢true, or_right}
 use Rattle.std.specs.declared.cmp.Ordering.{Ordering}
 use Rattle.std.specs.declared.cmp.Ordering.TheVariants.{Less, Equal, Greater}
 use Rattle.ma_cells.specs.Ascending.{ascending_of, put}
@@ -58,6 +59,38 @@ any_alike S P Q each (x ∷ xs) are =
     let one = each x are.0 in
     let more = any_alike S P Q each xs are.1 in
     ((λ h. ⊎_elim (λ k. inl (one.0 k)) (λ k. inr (more.0 k)) h), (λ h. ⊎_elim (λ k. inl (one.1 k)) (λ k. inr (more.1 k)) h))
+
+pub any_weaker : {X : Type 0} (P Q : X → Type 0) → ((x : X) → P x → Q x) → (xs : List X) → AnyByRecursion P xs → AnyByRecursion Q xs
+any_weaker P Q weaker [] h = h
+any_weaker P Q weaker (x ∷ xs) h = ⊎_elim (λ k. inl (weaker x k)) (λ k. inr (any_weaker P Q weaker xs k)) h
+
+-- where all are of a kind, one is
+pub any_and_all : {X : Type 0} (S P : X → Type 0) (xs : List X) → AllByRecursion S xs → AnyByRecursion P xs → AnyByRecursion (λ x. S x × P x) xs
+any_and_all S P [] are h = h
+any_and_all S P (x ∷ xs) are h = ⊎_elim (λ k. inl (are.0, k)) (λ k. inr (any_and_all S P xs are.1 k)) h
+
+pub any_gives : {X C : Type 0} (P : X → Type 0) → ((x : X) → P x → C) → (xs : List X) → AnyByRecursion P xs → C
+any_gives P each [] h = absurd h
+any_gives P each (x ∷ xs) h = ⊎_elim (λ k. each x k) (λ k. any_gives P each xs k) h
+
+-- what one of some items gives, all of them give: for each r of a list something of which P holds
+pub all_given : {U V R : Type 0} (A : U → Type 0) (P : R → V → Type 0) (f : U → List V) (rs : List R) → ((u : U) → A u → AllByRecursion (λ r. AnyByRecursion (P r) (f u)) rs)
+    → (us : List U) → AnyByRecursion A us → AllByRecursion (λ r. AnyByRecursion (P r) (flat_map f us)) rs
+all_given A P f [] each us h = tt
+all_given A P f (r ∷ rs) each us h =
+    ((any-flat_map (P r) f us).1 (any_weaker A (λ u. AnyByRecursion (P r) (f u)) (λ u k. (each u k).0) us h), all_given A P f rs (λ u k. (each u k).1) us h)
+
+-- ---- tests
+pub any_pass : {X : Type 0} (test : X → Bool) (xs : List X) → list_any test xs ≡ true → AnyByRecursion (λ x. test x ≡ true) xs
+any_pass test [] h = false≢true h
+any_pass test (x ∷ xs) h = elim (test x) as (λ b. test x ≡ b → (b || list_any test xs) ≡ true → (test x ≡ true) ⊎ AnyByRecursion (λ x. test x ≡ true) xs) [
+  | true ↦ λ e _. inl e
+  | false ↦ λ _ k. inr (any_pass test xs k)
+] refl h
+
+pub test_any : {X : Type 0} (test : X → Bool) (xs : List X) → AnyByRecursion (λ x. test x ≡ true) xs → list_any test xs ≡ true
+test_any test [] h = absurd h
+test_any test (x ∷ xs) h = ⊎_elim (λ k. ap (λ b. b || list_any test xs) k) (λ k. or_right (test x) (list_any test xs) (test_any test xs k)) h
 
 -- ---- sets
 module _ {K : Type 0} {R : K → K → Ordering} (exact : IsAntisymmetric R) (P : K → Type 0) where

@@ -25,9 +25,9 @@ use Rattle.refine_marks.proofs.OnHalves.{pieces_of_kind}
 pub its_count : (n : ℕ) (corners : List Coordinates) → ((length corners == n) && are_ascending place_cmp corners) ≡ true → length corners ≡ n
 its_count n corners is = eqb-true (length corners) n (and_parts (length corners == n) (are_ascending place_cmp corners) is).0
 
-both : {X : Type 0} (P Q : X → Type 0) (xs : List X) → AllByRecursion P xs → AllByRecursion Q xs → AllByRecursion (λ x. P x × Q x) xs
-both P Q [] h k = tt
-both P Q (x ∷ xs) h k = ((h.0, k.0), both P Q xs h.1 k.1)
+pub all_both : {X : Type 0} (P Q : X → Type 0) (xs : List X) → AllByRecursion P xs → AllByRecursion Q xs → AllByRecursion (λ x. P x × Q x) xs
+all_both P Q [] h k = tt
+all_both P Q (x ∷ xs) h k = ((h.0, k.0), all_both P Q xs h.1 k.1)
 
 module _ (field : Field) where
   pub pieces_are_cells : (cell : Cell) → is_cell cell ≡ true → AllByRecursion (λ piece. is_cell piece ≡ true) (refined_cell field cell)
@@ -45,7 +45,7 @@ module _ (field : Field) where
             let Kind = IsTriangle top.0 in
             let pieces = pieces_of (long_edges field t) t in
             all-map (λ r. Kind r × Rises r) (λ piece. is_cell piece ≡ true) Tri (λ r h. rising_cell 3 r ((triangles top.0).count r h.0) h.1) pieces
-            (both Kind Rises pieces
+            (all_both Kind Rises pieces
             (all-ascending_of (slice_cmp place_cmp) Kind (bisected field t) (pieces_of_kind Kind 3 (triangles top.0) (own_edges field t) (own_edges_rise field t up) (t ∷ []) (top.1, tt)))
             (pieces_rise (long_edges field t) t up))
       ] refl

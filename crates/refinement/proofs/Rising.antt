@@ -19,7 +19,7 @@ use Rattle.ma_cells.proofs.SetItems.{all-ascending_of}
 abbrev pub Rises : List Coordinates → Type 0
 Rises corners = are_ascending place_cmp corners ≡ true
 
-bisect_rises : (a b m : Coordinates) (corners : List Coordinates) → Rises corners → AllByRecursion Rises (bisect a b m corners)
+pub bisect_rises : (a b m : Coordinates) (corners : List Coordinates) → Rises corners → AllByRecursion Rises (bisect a b m corners)
 bisect_rises a b m corners h =
     elim (holds_all corners (a ∷ b ∷ [])) as (λ there. AllByRecursion Rises (cond there (replaced a m corners ∷ replaced b m corners ∷ []) (corners ∷ []))) [
       | true ↦ (replaced-ascends a m corners, (replaced-ascends b m corners, tt))
