@@ -6,13 +6,16 @@ use Rattle.ma_cells.specs.Tetrahedron.{are_tetrahedra}
 use Rattle.ma_cells.specs.declared.batch.Batch.{Batch}
 use Rattle.ma_cover.specs.Cover.{whole_cover}
 use Rattle.ma_cover.specs.OnFaces.{IsOffFaces}
+use Rattle.mesh_laws.specs.Adapted.{IsAdapted, IsSoundMesh}
+use Rattle.mesh_laws.proofs.Adapted.{adapted_composes, sound_is_adapted}
+use Rattle.refine_laws.proofs.Sound.{refinement_adapts}
 use Rattle.refinement.specs.Laws.{KeepsCover}
 use Rattle.refinement.proofs.Covered.{refinement_keeps_cover, refinement_keeps_faces}
 use Rattle.refinement.proofs.Gridded.{refinement_halves_the_grid}
 use Rattle.refinement.proofs.Keeping.{as_few}
 use Rattle.refinement.proofs.NotFlat.{refinement_is_not_flat}
 use Rattle.one_mesh.specs.Adaptation.{Plan, adapted, last_stage, staged}
-use Rattle.one_mesh.specs.Laws.{RoundsAreNotFlat, RoundsHalveTheGrid, RoundsKeepCover}
+use Rattle.one_mesh.specs.Laws.{RoundsAdapt, RoundsAreNotFlat, RoundsHalveTheGrid, RoundsKeepCover}
 
 -- ---- not flat
 stages_are_not_flat : (stage : ℕ) (plan : Plan) (mesh : Batch) → are_tetrahedra mesh.tets ≡ true → are_tetrahedra (staged plan stage mesh).tets ≡ true
@@ -66,3 +69,15 @@ rounds_halve_the_grid k zero plan mesh h = subst (λ n. mesh_is_on_grid n mesh �
     without k = omega arith
 rounds_halve_the_grid k (suc rounds) plan mesh h =
     stages_halve_the_grid (last_stage plan) k plan (adapted plan rounds mesh) (rounds_halve_the_grid (suc k) rounds plan mesh (subst (λ n. mesh_is_on_grid n mesh ≡ true) (one_finer k rounds) h))
+
+-- ---- sound meshes
+stages_adapt : (stage : ℕ) (plan : Plan) (mesh : Batch) → IsSoundMesh mesh → IsAdapted mesh (staged plan stage mesh)
+stages_adapt zero plan mesh is = refinement_adapts plan.field mesh is
+stages_adapt (suc stage) plan mesh is = stages_adapt stage plan mesh is
+
+pub rounds_adapt : RoundsAdapt
+rounds_adapt zero plan mesh is = sound_is_adapted mesh is
+rounds_adapt (suc rounds) plan mesh is =
+    let before = adapted plan rounds mesh in
+    let so_far = rounds_adapt rounds plan mesh is in
+    adapted_composes mesh before (staged plan (last_stage plan) before) is so_far (stages_adapt (last_stage plan) plan before so_far.sound)

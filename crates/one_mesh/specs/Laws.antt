@@ -3,6 +3,7 @@ use Rattle.std.specs.Prelude.{ℕ, ◌+◌, ◌≡◌, true}
 use Rattle.ma_cells.specs.Grid.{mesh_is_on_grid}
 use Rattle.ma_cells.specs.Tetrahedron.{are_tetrahedra}
 use Rattle.ma_cells.specs.declared.batch.Batch.{Batch}
+use Rattle.mesh_laws.specs.Adapted.{IsAdapted, IsSoundMesh}
 use Rattle.refinement.specs.Laws.{KeepsCover}
 use Rattle.one_mesh.specs.Adaptation.{Plan, adapted}
 
@@ -15,3 +16,7 @@ RoundsKeepCover = (rounds : ℕ) (plan : Plan) (mesh : Batch) → are_tetrahedra
 
 abbrev pub RoundsHalveTheGrid : Type 0
 RoundsHalveTheGrid = (k rounds : ℕ) (plan : Plan) (mesh : Batch) → mesh_is_on_grid (k + rounds) mesh ≡ true → mesh_is_on_grid k (adapted plan rounds mesh) ≡ true
+
+-- a sound mesh stays sound, covers the same and keeps the classification
+abbrev pub RoundsAdapt : Type 0
+RoundsAdapt = (rounds : ℕ) (plan : Plan) (mesh : Batch) → IsSoundMesh mesh → IsAdapted mesh (adapted plan rounds mesh)

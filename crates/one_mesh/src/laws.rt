@@ -1,5 +1,5 @@
 //! Laws of rounds, each the contract of a function that does nothing.
-ghost use Rattle.one_mesh.specs.Laws.{RoundsAreNotFlat, RoundsHalveTheGrid, RoundsKeepCover};
+ghost use Rattle.one_mesh.specs.Laws.{RoundsAdapt, RoundsAreNotFlat, RoundsHalveTheGrid, RoundsKeepCover};
 
 /// After any number of rounds no tetrahedron is flat.
 pub fn rounds_are_not_flat()
@@ -14,4 +14,9 @@ pub fn rounds_keep_cover()
 /// Each round takes a mesh to the next finer grid.
 pub fn rounds_halve_the_grid()
     ensures { RoundsHalveTheGrid }
+{}
+
+/// Any number of rounds keeps a sound mesh sound, its cover and its classification.
+pub fn rounds_adapt()
+    ensures { RoundsAdapt }
 {}

@@ -4,6 +4,7 @@ ghost use Rattle.ma_cells.specs.Ascending.{ascending_of};
 ghost use Rattle.ma_cells.specs.Grid.{mesh_is_on_grid};
 ghost use Rattle.one_mesh.specs.Holding.{set_of};
 ghost use Rattle.ma_cells.specs.Tetrahedron.{are_tetrahedra};
+ghost use Rattle.mesh_laws.specs.Adapted.{IsAdapted, IsSoundMesh};
 ghost use Rattle.refinement.specs.Laws.{KeepsCover};
 ghost use Rattle.refinement.specs.Refinement.{refine};
 ghost use Rattle.one_mesh.specs.Rounds.{EndsRound};
@@ -89,6 +90,7 @@ impl OneMesh {
         ensures value { OnOk result (self.new ≡ record { mesh = refine field.now self.old.mesh; spent = false }) }
         ensures err { OnErr result (self.new ≡ self.old) }
         ensures cover { OnOk result (KeepsCover self.old.mesh self.new.mesh) }
+        ensures adapts { OnOk result (IsSoundMesh self.old.mesh → IsAdapted self.old.mesh self.new.mesh) }
         ensures not_flat { are_tetrahedra self.new.mesh.tets ≡ true }
         ensures grid { OnOk result ((k : ℕ) → mesh_is_on_grid (suc k) self.old.mesh ≡ true → mesh_is_on_grid k self.new.mesh ≡ true) }
     {
