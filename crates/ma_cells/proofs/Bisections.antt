@@ -1,29 +1,19 @@
 -- What bisecting a cell gives.
 use Rattle.std.proofs.Common.{◌≡◌, ℕ, Bool, true, false, cond, not, ◌&&◌, ◌||◌, List, [], ◌∷◌, length, eqb, refl, sym, ap, ◌∙◌, arith}
-use Rattle.std.specs.Prelude.{map, ◌==◌}
+use Rattle.std.specs.Prelude.{map}
 use Rattle.std.specs.Cmp.{eq_by_cmp_equiv}
-use Rattle.std.specs.List.{list_all}
-use Rattle.std.proofs.lemmas.Bool.{and_parts, false≢true, or_parts}
+use Rattle.std.proofs.lemmas.Bool.{false≢true, or_parts}
 use Rattle.std.proofs.lemmas.Bool.Decides.{nat_tests}
 use Rattle.std.proofs.lemmas.List.{length-map}
-use Rattle.std.proofs.lemmas.List.Folds.{list_all-map}
 use Rattle.std.specs.Ordering.{eq_by_cmp}
 use Rattle.ma_geom.specs.Coordinates.{Coordinates, place_cmp}
 use Rattle.ma_geom.proofs.PlaceOrder.{place_cmp_total}
 use Rattle.ma_cells.specs.Ascending.{are_ascending, are_distinct, ascending_of, has}
-use Rattle.ma_cells.specs.Bisection.{bisect, bisect_cell, bisect_mark, bisect_tet, replaced}
-use Rattle.ma_cells.specs.Cells.{CellMark, corners_of, is_cell}
+use Rattle.ma_cells.specs.Bisection.{bisect, replaced}
 use Rattle.ma_cells.specs.Faces.{holds_all}
-use Rattle.ma_cells.specs.Tetrahedron.{Tetrahedron}
-use Rattle.ma_cells.specs.declared.cell.Cell.{Cell}
-use Rattle.ma_cells.specs.declared.cell.Cell.TheVariants.{Point, Seg, Tri}
 use Rattle.ma_cells.proofs.Ascents.{ascending_from_strict, has-ascending_of, length-ascending_of, sorted-ascending_of}
 use Rattle.ma_cells.proofs.Cornered.{distinct-ascending}
 use Rattle.ma_cells.proofs.Permutations.{alone, same, tied}
-
--- a cell without the edge stays
-pub bisect-without : (a b m : Coordinates) (corners : List Coordinates) → holds_all corners (a ∷ b ∷ []) ≡ false → bisect a b m corners ≡ corners ∷ []
-bisect-without a b m corners h = rw h refl
 
 -- a cell with the edge gives two
 pub bisect-with : (a b m : Coordinates) (corners : List Coordinates) → holds_all corners (a ∷ b ∷ []) ≡ true
@@ -34,15 +24,6 @@ pub replaced-ascends : (a m : Coordinates) (corners : List Coordinates) → are_
 replaced-ascends a m corners =
     let places = map (λ p. cond (eq_by_cmp place_cmp a p) m p) corners in
     ascending_from_strict place_cmp_total (ascending_of place_cmp places) (sorted-ascending_of place_cmp_total places)
-
--- the halves of a cell ascend
-pub bisect-ascends : (a b m : Coordinates) (corners : List Coordinates) → are_ascending place_cmp corners ≡ true
-    → list_all (are_ascending place_cmp) (bisect a b m corners) ≡ true
-bisect-ascends a b m corners rises =
-    elim (holds_all corners (a ∷ b ∷ [])) as (λ h. list_all (are_ascending place_cmp) (cond h (replaced a m corners ∷ replaced b m corners ∷ []) (corners ∷ [])) ≡ true) [
-      | true ↦ rw (replaced-ascends a m corners, replaced-ascends b m corners) refl
-      | false ↦ rw rises refl
-    ]
 
 as_many : (l m n : ℕ) → eqb l m ≡ true → m ≡ n → l ≡ n
 as_many l m n e f = grind (arith, nat_tests)
@@ -134,45 +115,6 @@ length-replaced a m corners rises new =
     let whole : eqb (length (replaced a m corners)) (length places) ≡ true =
     (length-ascending_of place_cmp_total places).1 ∙ stay_distinct a m corners (distinct-ascending corners rises) new in
     as_many (length (replaced a m corners)) (length places) (length corners) whole (length-map corners (λ p. cond (eq_by_cmp place_cmp a p) m p))
-
--- a half of so many ascending corners has as many, and they ascend
-is_half : (n : ℕ) (a m : Coordinates) (corners : List Coordinates) → ((length corners == n) && are_ascending place_cmp corners) ≡ true → has place_cmp m corners ≡ false
-    → ((length (replaced a m corners) == n) && are_ascending place_cmp (replaced a m corners)) ≡ true
-is_half n a m corners h new =
-    let parts = and_parts (length corners == n) (are_ascending place_cmp corners) h in
-    let many : length (replaced a m corners) ≡ length corners = length-replaced a m corners parts.1 new in
-    let kept : (length (replaced a m corners) == n) ≡ true = ap (λ k. k == n) many ∙ parts.0 in
-    ap (λ t. t && are_ascending place_cmp (replaced a m corners)) kept ∙ replaced-ascends a m corners
-
-both : {b c : Bool} → b ≡ true → c ≡ true → (b && (c && true)) ≡ true
-both {b} {c} s t = rw (s, t) refl
-
--- the halves of a cell are cells, where m is no corner of it
-pub bisect_cell-is_cell : (a b m : Coordinates) (cell : Cell) → is_cell cell ≡ true → has place_cmp m (corners_of cell) ≡ false
-    → list_all is_cell (bisect_cell a b m cell) ≡ true
-bisect_cell-is_cell a b m (Point p) h new = refl
-bisect_cell-is_cell a b m (Seg s) h new =
-    elim (holds_all s (a ∷ b ∷ [])) as (λ k. list_all is_cell (map Seg (cond k (replaced a m s ∷ replaced b m s ∷ []) (s ∷ []))) ≡ true) [
-      | true ↦ both (is_half 2 a m s h new) (is_half 2 b m s h new)
-      | false ↦ ap (λ t. t && true) h
-    ]
-bisect_cell-is_cell a b m (Tri t) h new =
-    elim (holds_all t (a ∷ b ∷ [])) as (λ k. list_all is_cell (map Tri (cond k (replaced a m t ∷ replaced b m t ∷ []) (t ∷ []))) ≡ true) [
-      | true ↦ both (is_half 3 a m t h new) (is_half 3 b m t h new)
-      | false ↦ ap (λ u. u && true) h
-    ]
-
-pub bisect_mark-is_cell : (a b m : Coordinates) (mark : CellMark) → is_cell mark.cell ≡ true → has place_cmp m (corners_of mark.cell) ≡ false
-    → list_all (λ half. is_cell half.cell) (bisect_mark a b m mark) ≡ true
-bisect_mark-is_cell a b m mark h new =
-    list_all-map (λ (half : CellMark). is_cell half.cell) (λ (cell : Cell). record mark { cell = cell }) (bisect_cell a b m mark.cell) ∙ bisect_cell-is_cell a b m mark.cell h new
-
--- the halves of a tetrahedron have ascending corners
-pub bisect_tet-ascends : (a b m : Coordinates) (tet : Tetrahedron) → are_ascending place_cmp tet.corners ≡ true
-    → list_all (λ half. are_ascending place_cmp half.corners) (bisect_tet a b m tet) ≡ true
-bisect_tet-ascends a b m tet rises =
-    list_all-map (λ (half : Tetrahedron). are_ascending place_cmp half.corners) (λ (corners : List Coordinates). record tet { corners = corners }) (bisect a b m tet.corners)
-    ∙ bisect-ascends a b m tet.corners rises
 
 both_turned : (b c : Bool) → (b && (c && true)) ≡ (c && (b && true))
 both_turned true true = refl

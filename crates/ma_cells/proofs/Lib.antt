@@ -12,3 +12,4 @@ pub mod Searches
 pub mod CellLists
 pub mod Passing
 pub mod SetItems
+pub mod Members

@@ -1,9 +1,10 @@
 -- What holds of all items of a list, as a test and item by item.
-use Rattle.std.proofs.Common.{◌≡◌, ℕ, zero, suc, ◌<◌, Bool, true, false, ◌||◌, List, [], ◌∷◌, filter, length, get_or, refl, ap, arith}
-use Rattle.std.specs.Prelude.{map, cond}
-use Rattle.std.specs.List.{All, AllByRecursion, flat_map, list_all, list_any}
+use Rattle.std.proofs.Common.{◌≡◌, Bool, true, false, ◌||◌, List, [], ◌∷◌, filter, refl, ap}
+use Rattle.std.specs.Prelude.{map, cond, IfSome, Option, Some, None}
+use Rattle.std.specs.List.{AllByRecursion, cons_option, filter_map, flat_map, list_all, list_any}
 use Rattle.std.specs.List.Sorted.{IsPermutation}
 use Rattle.std.proofs.lemmas.Bool.{and_parts, or_right}
+use Rattle.std.proofs.lemmas.List.Elements.{All-from_recursion, recursion_from_All}
 use Rattle.std.proofs.lemmas.List.Sorted.{All-permutation}
 use Rattle.ma_cells.proofs.Choices.{all-append}
 
@@ -41,22 +42,18 @@ module _ {X Y : Type 0} (P : X → Type 0) (Q : Y → Type 0) where
   all-flat_map f each [] h = tt
   all-flat_map f each (x ∷ xs) h = all-append Q (f x) (flat_map f xs) (each x h.0) (all-flat_map f each xs h.1)
 
+pub all-filter_map : {X Y : Type 0} (P : X → Type 0) (Q : Y → Type 0) (h : X → Option Y) → ((x : X) → P x → IfSome (h x) Q) → (xs : List X) → AllByRecursion P xs → AllByRecursion Q (filter_map h xs)
+all-filter_map P Q h gives [] all = tt
+all-filter_map P Q h gives (x ∷ xs) all =
+    let rest = all-filter_map P Q h gives xs all.1 in
+    elim (h x) as (λ o. IfSome o Q → AllByRecursion Q (cons_option o (filter_map h xs))) [ None ↦ λ _. rest | Some y ↦ λ holds. (holds, rest) ] (gives x all.0)
+
 pub all_anyway : {X : Type 0} (xs : List X) → AllByRecursion (λ (x : X). Unit {0}) xs
 all_anyway [] = tt
 all_anyway (x ∷ xs) = (tt, all_anyway xs)
 
--- ---- by index
-pub all_from_index : {X : Type 0} (P : X → Type 0) (xs : List X) → All P xs → AllByRecursion P xs
-all_from_index P [] h = tt
-all_from_index P (x ∷ xs) h = (h zero x (omega arith), all_from_index P xs (λ k d w. h (suc k) d (omega arith)))
-
-pub all_by_index : {X : Type 0} (P : X → Type 0) (xs : List X) → AllByRecursion P xs → All P xs
-all_by_index P [] h k d below = absurd (omega arith)
-all_by_index P (x ∷ xs) h zero d below = h.0
-all_by_index P (x ∷ xs) h (suc k) d below = all_by_index P xs h.1 k d (omega arith)
-
 pub all-permutation : {X : Type 0} (P : X → Type 0) (xs ys : List X) → IsPermutation xs ys → AllByRecursion P xs → AllByRecursion P ys
-all-permutation P xs ys moved h = all_from_index P ys (All-permutation P xs ys moved (all_by_index P xs h))
+all-permutation P xs ys moved h = recursion_from_All P ys (All-permutation P xs ys moved (All-from_recursion P xs h))
 
 -- ---- what some item of a list passes
 pub any-weaker : {X : Type 0} (f g : X → Bool) → ((x : X) → f x ≡ true → g x ≡ true) → (xs : List X) → list_any f xs ≡ true → list_any g xs ≡ true

@@ -3,11 +3,8 @@ use Rattle.std.specs.Prelude.{List, [], ◌∷◌, map, if◌then◌else◌}
 use Rattle.std.specs.Ordering.{eq_by_cmp}
 use Rattle.ma_geom.specs.Coordinates.{Coordinates, place_cmp}
 use Rattle.ma_cells.specs.Ascending.{ascending_of}
-use Rattle.ma_cells.specs.Cells.{CellMark}
 use Rattle.ma_cells.specs.Faces.{holds_all}
 use Rattle.ma_cells.specs.Tetrahedron.{Tetrahedron}
-use Rattle.ma_cells.specs.declared.cell.Cell.{Cell}
-use Rattle.ma_cells.specs.declared.cell.Cell.TheVariants.{Point, Seg, Tri}
 
 -- the corners with m in the place of a, in ascending order
 abbrev pub replaced : (a m : Coordinates) → List Coordinates → List Coordinates
@@ -21,12 +18,3 @@ bisect a b m corners =
 -- the same of a tetrahedron: both halves keep its region
 abbrev pub bisect_tet : (a b m : Coordinates) → Tetrahedron → List Tetrahedron
 bisect_tet a b m tet = map (λ corners. record tet { corners = corners }) (bisect a b m tet.corners)
-
-abbrev pub bisect_cell : (a b m : Coordinates) → Cell → List Cell
-bisect_cell a b m (Point p) = Point p ∷ []
-bisect_cell a b m (Seg s) = map Seg (bisect a b m s)
-bisect_cell a b m (Tri t) = map Tri (bisect a b m t)
-
--- the same of a mark: both halves keep its tag
-abbrev pub bisect_mark : (a b m : Coordinates) → CellMark → List CellMark
-bisect_mark a b m mark = map (λ cell. record mark { cell = cell }) (bisect_cell a b m mark.cell)

@@ -7,3 +7,5 @@ pub mod Views
 pub mod Bisection
 pub mod Grid
 pub mod Incidence
+pub mod Stars
+pub mod Worst

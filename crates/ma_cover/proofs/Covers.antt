@@ -14,7 +14,7 @@ use Rattle.ma_cells.specs.Bisection.{bisect, bisect_tet, replaced}
 use Rattle.ma_cells.specs.Faces.{holds_all}
 use Rattle.ma_cells.specs.Tetrahedron.{Tetrahedron, are_corners}
 use Rattle.ma_cells.proofs.Bisections.{bisect-with}
-use Rattle.ma_cover.specs.Cover.{cover, whole_cover}
+use Rattle.ma_cover.specs.Laws.{BisectionKeepsCover}
 use Rattle.ma_cover.specs.Inside.{is_inside}
 use Rattle.ma_cover.specs.OnFaces.{IsOffFaces, IsOffFacesOf, IsOffTriangle}
 use Rattle.ma_cover.proofs.Exchanges.{inside_in_any_order}
@@ -38,33 +38,14 @@ same_count : (f : List Coordinates → Bool) (u v w u' v' w' : List Coordinates)
     → count_by f (u ∷ v ∷ []) ≡ count_by f (w ∷ []) → count_by f (u' ∷ v' ∷ []) ≡ count_by f (w' ∷ [])
 same_count f u v w u' v' w' e g h k = rw (e, g, h) k
 
-pub replaced_count : (m a b c d : Coordinates) (corners : List Coordinates) (p : Rational) → IsPermutation (a ∷ b ∷ c ∷ d ∷ []) corners → IsMiddle m a b → vol6 a b c d ≢ pos 0 → IsOffTriangle m c d p
+replaced_count : (m a b c d : Coordinates) (corners : List Coordinates) (p : Rational) → IsPermutation (a ∷ b ∷ c ∷ d ∷ []) corners → IsMiddle m a b → vol6 a b c d ≢ pos 0 → IsOffTriangle m c d p
     → count_by (is_inside p) (replaced a m corners ∷ replaced b m corners ∷ []) ≡ count_by (is_inside p) (corners ∷ [])
-replaced_count m a b c d corners p moved middle solid off =
+replaced_count m a b c d corners p moved middle bent off =
     same_count (is_inside p) (m ∷ b ∷ c ∷ d ∷ []) (a ∷ m ∷ c ∷ d ∷ []) (a ∷ b ∷ c ∷ d ∷ []) (replaced a m corners) (replaced b m corners) corners
-    (inside_in_any_order p (m ∷ b ∷ c ∷ d ∷ []) (replaced a m corners) (replaced_first m a b c d corners moved middle solid))
-    (inside_in_any_order p (a ∷ m ∷ c ∷ d ∷ []) (replaced b m corners) (replaced_second m a b c d corners moved middle solid))
+    (inside_in_any_order p (m ∷ b ∷ c ∷ d ∷ []) (replaced a m corners) (replaced_first m a b c d corners moved middle bent))
+    (inside_in_any_order p (a ∷ m ∷ c ∷ d ∷ []) (replaced b m corners) (replaced_second m a b c d corners moved middle bent))
     (inside_in_any_order p (a ∷ b ∷ c ∷ d ∷ []) corners moved)
-    (halves_keep_cover m a b c d p middle solid off)
-
-sorted : (a b c d : Coordinates) → vol6 a b c d ≢ pos 0 → IsPermutation (a ∷ b ∷ c ∷ d ∷ []) (ascending_of place_cmp (a ∷ b ∷ c ∷ d ∷ []))
-sorted a b c d solid = ascending_of-permutes (a ∷ b ∷ c ∷ d ∷ []) (distinct_corners a b c d solid)
-
-holds_edge : (a b c d : Coordinates) (corners : List Coordinates) → IsPermutation (a ∷ b ∷ c ∷ d ∷ []) corners → holds_all corners (a ∷ b ∷ []) ≡ true
-holds_edge a b c d corners moved =
-    rw (sym (has-permutation a (a ∷ b ∷ c ∷ d ∷ []) corners moved), sym (has-permutation b (a ∷ b ∷ c ∷ d ∷ []) corners moved))
-    (held (eq_by_cmp place_cmp a a) (has place_cmp a (b ∷ c ∷ d ∷ [])) (eq_by_cmp place_cmp b a) (eq_by_cmp place_cmp b b) (has place_cmp b (c ∷ d ∷ [])) (tied a) (tied b))
-  where
-    held : (s t u v w : Bool) → s ≡ true → v ≡ true → ((s || t) && ((u || (v || w)) && true)) ≡ true
-    held s t true v w e f = rw e refl
-    held s t false v w e f = rw (e, f) refl
-
-pub bisect_count : (m a b c d : Coordinates) (p : Rational) → IsMiddle m a b → vol6 a b c d ≢ pos 0 → IsOffTriangle m c d p
-    → count_by (is_inside p) (bisect a b m (ascending_of place_cmp (a ∷ b ∷ c ∷ d ∷ []))) ≡ count_by (is_inside p) (ascending_of place_cmp (a ∷ b ∷ c ∷ d ∷ []) ∷ [])
-bisect_count m a b c d p middle solid off =
-    let corners = ascending_of place_cmp (a ∷ b ∷ c ∷ d ∷ []) in
-    let moved = sorted a b c d solid in
-    ap (count_by (is_inside p)) (bisect-with a b m corners (holds_edge a b c d corners moved)) ∙ replaced_count m a b c d corners p moved middle solid off
+    (halves_keep_cover m a b c d p middle bent off)
 
 pub bisect_inside : (p : Rational) (m a b : Coordinates) (corners : List Coordinates) → IsMiddle m a b → a ≢ b → are_corners corners ≡ true
     → AllByRecursion (IsOffFacesOf p) (bisect a b m corners) → count_by (is_inside p) (bisect a b m corners) ≡ count_by (is_inside p) (corners ∷ [])
@@ -96,13 +77,6 @@ module _ (g : ℤ → ℤ → Bool) (p : Rational) where
       → count_by (passes g p) (with_corners tet xs ∷ with_corners tet ys ∷ []) ≡ count_by (passes g p) (tet ∷ [])
   two_passes tet xs ys h = two_count (g tet.phys tet.elem) (is_inside p xs) (is_inside p ys) (is_inside p tet.corners) h
 
-  pub edge_passes : (m a b c d : Coordinates) (tet : Tetrahedron) → IsMiddle m a b → vol6 a b c d ≢ pos 0 → tet.corners ≡ ascending_of place_cmp (a ∷ b ∷ c ∷ d ∷ []) → IsOffTriangle m c d p
-      → count_by (passes g p) (bisect_tet a b m tet) ≡ count_by (passes g p) (tet ∷ [])
-  edge_passes m a b c d tet middle solid is off =
-      let moved : IsPermutation (a ∷ b ∷ c ∷ d ∷ []) tet.corners = subst (IsPermutation (a ∷ b ∷ c ∷ d ∷ [])) (sym is) (sorted a b c d solid) in
-      ap (λ xss. count_by (passes g p) (map (with_corners tet) xss)) (bisect-with a b m tet.corners (holds_edge a b c d tet.corners moved))
-      ∙ two_passes tet (replaced a m tet.corners) (replaced b m tet.corners) (replaced_count m a b c d tet.corners p moved middle solid off)
-
   module _ (m a b : Coordinates) (middle : IsMiddle m a b) (differ : a ≢ b) where
     tet_passes : (tet : Tetrahedron) → are_corners tet.corners ≡ true → IsOffFaces p (bisect_tet a b m tet)
         → count_by (passes g p) (bisect_tet a b m tet) ≡ count_by (passes g p) (tet ∷ [])
@@ -118,7 +92,7 @@ module _ (g : ℤ → ℤ → Bool) (p : Rational) where
           | false ↦ λ _ _. refl
         ] refl off
 
-    pub list_passes : (tets : List Tetrahedron) → list_all (λ tet. are_corners tet.corners) tets ≡ true → IsOffFaces p (flat_map (bisect_tet a b m) tets)
+    list_passes : (tets : List Tetrahedron) → list_all (λ tet. are_corners tet.corners) tets ≡ true → IsOffFaces p (flat_map (bisect_tet a b m) tets)
         → count_by (passes g p) (flat_map (bisect_tet a b m) tets) ≡ count_by (passes g p) tets
     list_passes [] are off = refl
     list_passes (tet ∷ tets) are off =
@@ -129,19 +103,5 @@ module _ (g : ℤ → ℤ → Bool) (p : Rational) where
         ∙ ap₂ (λ (k n : ℕ). k + n) first rest
         ∙ sym (sum_by-append (λ t. cond (passes g p t) 1 0) (tet ∷ []) tets)
 
--- ---- as the laws say it
-pub bisection_keeps_cover_of_one : (phys elem : ℤ) (p : Rational) (m a b c d : Coordinates) (tet : Tetrahedron) → IsMiddle m a b → vol6 a b c d ≢ pos 0
-    → tet.corners ≡ ascending_of place_cmp (a ∷ b ∷ c ∷ d ∷ []) → IsOffTriangle m c d p
-    → cover phys elem p (bisect_tet a b m tet) ≡ cover phys elem p (tet ∷ [])
-bisection_keeps_cover_of_one phys elem p = edge_passes (λ u v. int_eq u phys && int_eq v elem) p
-
-pub bisection_keeps_cover : (phys elem : ℤ) (p : Rational) (m a b : Coordinates) (tets : List Tetrahedron) → IsMiddle m a b → a ≢ b
-    → list_all (λ tet. are_corners tet.corners) tets ≡ true → IsOffFaces p (flat_map (bisect_tet a b m) tets)
-    → cover phys elem p (flat_map (bisect_tet a b m) tets) ≡ cover phys elem p tets
-bisection_keeps_cover phys elem p m a b tets middle differ =
-    list_passes (λ u v. int_eq u phys && int_eq v elem) p m a b middle differ tets
-
-pub bisection_keeps_whole_cover : (p : Rational) (m a b : Coordinates) (tets : List Tetrahedron) → IsMiddle m a b → a ≢ b
-    → list_all (λ tet. are_corners tet.corners) tets ≡ true → IsOffFaces p (flat_map (bisect_tet a b m) tets)
-    → whole_cover p (flat_map (bisect_tet a b m) tets) ≡ whole_cover p tets
-bisection_keeps_whole_cover p m a b tets middle differ = list_passes (λ _ _. true) p m a b middle differ tets
+pub bisection_keeps_cover : BisectionKeepsCover
+bisection_keeps_cover regions p m a b tets middle differ = list_passes regions p m a b middle differ tets

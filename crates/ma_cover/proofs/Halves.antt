@@ -201,12 +201,12 @@ on_exchanged a b c p on = record {
 
 pub halves_keep_cover : (m a b c d : Coordinates) (p : Rational) → IsMiddle m a b → vol6 a b c d ≢ pos 0 → IsOffTriangle m c d p
     → count_by (is_inside p) ((m ∷ b ∷ c ∷ d ∷ []) ∷ (a ∷ m ∷ c ∷ d ∷ []) ∷ []) ≡ count_by (is_inside p) ((a ∷ b ∷ c ∷ d ∷ []) ∷ [])
-halves_keep_cover m a b c d p middle solid off =
+halves_keep_cover m a b c d p middle bent off =
     ⊎_elim (λ positive. positive_halves m a b c d p middle positive off)
     (λ negative. same_count (is_inside p) (m ∷ b ∷ c ∷ d ∷ []) (a ∷ m ∷ c ∷ d ∷ []) (a ∷ b ∷ c ∷ d ∷ []) (m ∷ b ∷ d ∷ c ∷ []) (a ∷ m ∷ d ∷ c ∷ []) (a ∷ b ∷ d ∷ c ∷ [])
     (inside_cd p m b c d) (inside_cd p a m c d) (inside_cd p a b c d)
     (positive_halves m a b d c p middle (carried (vol6_exchange_cd a b c d) negative) (λ on. off (on_turned m c d p on))))
-    (either_way (vol6 a b c d) solid)
+    (either_way (vol6 a b c d) bent)
   where
     carried : {s t : ℤ} → s ≡ t → pos 0 <ℤ t → pos 0 <ℤ s
     carried e h = rw e h

@@ -1,5 +1,5 @@
 -- In a sorted list the items that stand once are those that neither neighbour is.
-use Rattle.std.proofs.Common.{◌≡◌, ℕ, zero, suc, ◌+◌, ◌<◌, Bool, true, false, cond, not, ◌&&◌, ◌||◌, eqb, List, [], ◌∷◌, length, get_or, Option, Some, None, refl, sym, ap, ◌∙◌, arith, add-one, count_by}
+use Rattle.std.proofs.Common.{◌≡◌, ℕ, zero, suc, ◌+◌, Bool, true, false, cond, not, ◌&&◌, ◌||◌, eqb, List, [], ◌∷◌, Option, Some, None, refl, sym, ap, ◌∙◌, arith, add-one, count_by}
 use Rattle.std.specs.Cmp.{IsTotalOrder, alike_right, tied_itself}
 use Rattle.std.specs.List.{AllByRecursion, filter, list_any}
 use Rattle.std.specs.List.Sorted.{IsPermutation, IsSorted}
@@ -8,10 +8,11 @@ use Rattle.std.specs.declared.cmp.Ordering.{Ordering}
 use Rattle.std.specs.declared.cmp.Ordering.TheVariants.{Less, Equal, Greater}
 use Rattle.std.proofs.lemmas.Bool.{false≢true}
 use Rattle.std.proofs.lemmas.Bool.Decides.{nat_tests}
+use Rattle.std.proofs.lemmas.List.Elements.{recursion_from_All}
 use Rattle.std.proofs.lemmas.List.Recursion.{is_count_by}
 use Rattle.std.proofs.lemmas.List.Sorted.{list_any-IsPermutation, ranks_by, sorted_far, sum_by-IsPermutation}
-use Rattle.ma_cells.proofs.Passing.{all_from_index}
-use Rattle.mesh_check.specs.Lone.{differs, first_of, lone, lone_after}
+use Rattle.mesh_check.specs.Lone.{lone}
+use Rattle.mesh_check.specs.steps.Neighbours.{differs, first_of, lone_after}
 
 -- how often an item stands in a list
 abbrev times : {K : Type 0} → (K → K → Ordering) → K → List K → ℕ
@@ -44,7 +45,7 @@ module _ {K : Type 0} {R : K → K → Ordering} (o : IsTotalOrder R) where
   ordered : (xs : List K) → IsSorted R xs → Ordered R xs
   ordered [] s = tt
   ordered (x ∷ xs) s = (
-    all_from_index (λ z. is_lt (R z x) ≡ false) xs (λ k d w. sorted_far (λ a b. is_lt (R a b)) (ranks_by o (λ a. a)) (x ∷ xs) s zero (suc k) d (omega arith) (omega arith)),
+    recursion_from_All (λ z. is_lt (R z x) ≡ false) xs (λ k d w. sorted_far (λ a b. is_lt (R a b)) (ranks_by o (λ a. a)) (x ∷ xs) s zero (suc k) d (omega arith) (omega arith)),
     ordered xs (λ k d low high. let at = s (suc k) d (omega arith) (omega arith) in rw add-one (rw add-one at at)),
   )
 

@@ -35,7 +35,7 @@ use Rattle.mesh_check.proofs.Marking.{any-filter_map, passes}
 use Rattle.ma_cells.proofs.Ascents.{has-ascending_of}
 use Rattle.ma_cells.proofs.Choices.{all-append}
 use Rattle.msh_read.specs.Raw.{Raw}
-use Rattle.mesh_check.specs.FoundMarks.{found_marks, kept_mark}
+use Rattle.mesh_check.specs.steps.FoundMarks.{found_marks, kept_mark}
 use Rattle.ma_cells.specs.Faces.{faces_of}
 
 -- a face with its region
@@ -182,26 +182,26 @@ has_faces t are = of t.corners t.phys t.elem are
 abbrev has_side : Side → Tetrahedron → Bool
 has_side s t = has side_cmp s (sides_of t)
 
-abbrev pub AreSolid : List Tetrahedron → Type 0
-AreSolid tets = All (λ t. are_corners t.corners ≡ true) tets
+abbrev pub AreNotFlat : List Tetrahedron → Type 0
+AreNotFlat tets = All (λ t. are_corners t.corners ≡ true) tets
 
 both_sums : (c x y f r : ℕ) → c ≡ x + y → f ≡ x + r → y ≡ r → c ≡ f
 both_sums c x y f r e g h = omega arith
 
 -- as often as it stands among the faces of all
-count_sides : (s : Side) (tets : List Tetrahedron) → AreSolid tets → count_by (eq_by_cmp side_cmp s) (flat_map sides_of tets) ≡ count_by (has_side s) tets
-count_sides s [] solid = refl
-count_sides s (t ∷ ts) solid =
+count_sides : (s : Side) (tets : List Tetrahedron) → AreNotFlat tets → count_by (eq_by_cmp side_cmp s) (flat_map sides_of tets) ≡ count_by (has_side s) tets
+count_sides s [] not_flat = refl
+count_sides s (t ∷ ts) not_flat =
     let one : Side → ℕ = λ y. cond (eq_by_cmp side_cmp s y) 1 0 in
     let own : sum_by one (sides_of t) ≡ cond (has_side s t) 1 0 =
     elim (has_side s t) as (λ b. has_side s t ≡ b → sum_by one (sides_of t) ≡ cond b 1 0) [
-      | true ↦ λ there. count_one side_cmp_total s (sides_of t) (has_faces t (solid 0 t (omega arith))).distinct there
+      | true ↦ λ there. count_one side_cmp_total s (sides_of t) (has_faces t (not_flat 0 t (omega arith))).distinct there
       | false ↦ λ none. count_none (eq_by_cmp side_cmp s) (sides_of t) none
     ] refl in
     both_sums (count_by (eq_by_cmp side_cmp s) (flat_map sides_of (t ∷ ts))) (cond (has_side s t) 1 0) (sum_by one (flat_map sides_of ts)) (count_by (has_side s) (t ∷ ts)) (count_by (has_side s) ts)
     (ap (sum_by one) (flat_map-cons sides_of t ts) ∙ sum_by-append one (sides_of t) (flat_map sides_of ts) ∙ ap (λ n. n + sum_by one (flat_map sides_of ts)) own)
     (sum_by-cons (λ u. cond (has_side s u) 1 0) t ts)
-    (count_sides s ts (λ k d h. solid (suc k) d (omega arith)))
+    (count_sides s ts (λ k d h. not_flat (suc k) d (omega arith)))
 
 -- ---- at most two items, where no three agree
 module _ {X : Type 0} (p : X → Bool) (O : X → X → Type 0) (clash : (x y z : X) → p x ≡ true → p y ≡ true → p z ≡ true → O x y → O x z → O y z → ⊥) where
@@ -271,7 +271,7 @@ no_three (a ∷ b ∷ c ∷ []) region t u v f g h tu tv uv =
 no_three (a ∷ b ∷ c ∷ d ∷ face) region t u v f g h tu tv uv = absurd (omega (arith, f.0))
 
 fourth : (s : Side) (t : Tetrahedron) → are_corners t.corners ≡ true → has_side s t ≡ true → HasFourth t.corners s
-fourth s t solid there = all-at side_cmp-IsAntisymmetric (HasFourth t.corners) s (sides_of t) (has_faces t solid).fourths there
+fourth s t not_flat there = all-at side_cmp-IsAntisymmetric (HasFourth t.corners) s (sides_of t) (has_faces t not_flat).fourths there
 
 had_twice : (s : Side) (tets : List Tetrahedron) → AllPairs AreApart tets → count_by (has_side s) tets ≤ 2
 had_twice s tets apart =
@@ -281,10 +281,10 @@ had_twice s tets apart =
     tets apart
 
 -- each face of them can be marked
-all_markable : (tets : List Tetrahedron) → AreSolid tets → AllByRecursion HasMark (flat_map sides_of tets)
-all_markable [] solid = tt
-all_markable (t ∷ ts) solid =
-    subst (AllByRecursion HasMark) (sym (flat_map-cons sides_of t ts)) (all-append HasMark (sides_of t) (flat_map sides_of ts) (has_faces t (solid 0 t (omega arith))).markable (all_markable ts (λ k d h. solid (suc k) d (omega arith))))
+all_markable : (tets : List Tetrahedron) → AreNotFlat tets → AllByRecursion HasMark (flat_map sides_of tets)
+all_markable [] not_flat = tt
+all_markable (t ∷ ts) not_flat =
+    subst (AllByRecursion HasMark) (sym (flat_map-cons sides_of t ts)) (all-append HasMark (sides_of t) (flat_map sides_of ts) (has_faces t (not_flat 0 t (omega arith))).markable (all_markable ts (λ k d h. not_flat (suc k) d (omega arith))))
 
 -- what stands once among the faces of all is marked
 is_outer : (s : Side) (sides : List Side) → has side_cmp s sides ≡ true → count_by (eq_by_cmp side_cmp s) sides ≡ 1 → HasMark s
@@ -309,15 +309,15 @@ which (suc (suc zero)) h = inr (inl refl)
 which (suc (suc (suc n))) h = absurd (omega arith)
 
 -- a face that one tetrahedron of a region has is marked
-marked_once : (kept : List CellMark) (s : Side) (tets : List Tetrahedron) → AreSolid tets → count_by (has_side s) tets ≡ 1 → has mark_cmp (outer_mark s.0) (ascending_of mark_cmp (kept ++ outer_marks tets)) ≡ true
-marked_once kept s tets solid once =
+marked_once : (kept : List CellMark) (s : Side) (tets : List Tetrahedron) → AreNotFlat tets → count_by (has_side s) tets ≡ 1 → has mark_cmp (outer_mark s.0) (ascending_of mark_cmp (kept ++ outer_marks tets)) ≡ true
+marked_once kept s tets not_flat once =
     let sides : List Side = flat_map sides_of tets in
-    let stands : count_by (eq_by_cmp side_cmp s) sides ≡ 1 = count_sides s tets solid ∙ once in
+    let stands : count_by (eq_by_cmp side_cmp s) sides ≡ 1 = count_sides s tets not_flat ∙ once in
     let there = not_none (count_by (eq_by_cmp side_cmp s) sides) (has side_cmp s sides) (count_none (eq_by_cmp side_cmp s) sides) stands in
     let mark : CellMark = outer_mark s.0 in
     has-ascending_of mark_cmp_total mark (kept ++ outer_marks tets)
     ∙ list_any-append (eq_by_cmp mark_cmp mark) kept (outer_marks tets)
-    ∙ ap (λ b. has mark_cmp mark kept || b) (is_outer s sides there stands (all-at side_cmp-IsAntisymmetric HasMark s sides (all_markable tets solid) there))
+    ∙ ap (λ b. has mark_cmp mark kept || b) (is_outer s sides there stands (all-at side_cmp-IsAntisymmetric HasMark s sides (all_markable tets not_flat) there))
     ∙ or_right (has mark_cmp mark kept) true refl
 
 -- ---- the faces of one region
@@ -354,25 +354,25 @@ count_holders : (phys elem : ℤ) (face : List Coordinates) (tets : List Tetrahe
 count_holders phys elem face tets = ap (λ f. count_by f tets) (λ i t. in_region phys elem face t.phys t.elem (faces_of t.corners) i)
 
 -- a face that one tetrahedron of a region has carries the mark of an outer face
-pub outer_face : (raw : Raw) (shift : ℕ) (tets : List Tetrahedron) → AreSolid tets → (phys elem : ℤ) (face : List Coordinates) → holders phys elem face tets ≡ 1
+pub outer_face : (raw : Raw) (shift : ℕ) (tets : List Tetrahedron) → AreNotFlat tets → (phys elem : ℤ) (face : List Coordinates) → holders phys elem face tets ≡ 1
     → has mark_cmp (outer_mark face) (found_marks raw shift tets) ≡ true
-outer_face raw shift tets solid phys elem face once =
-    marked_once (filter_map (kept_mark (is_on tets) raw.nodes shift) raw.marks) (face, (phys, elem)) tets solid (count_holders phys elem face tets ∙ once)
+outer_face raw shift tets not_flat phys elem face once =
+    marked_once (filter_map (kept_mark (is_on tets) raw.nodes shift) raw.marks) (face, (phys, elem)) tets not_flat (count_holders phys elem face tets ∙ once)
 
 -- a face that carries it is marked
 carries : (face : List Coordinates) (marks : List CellMark) → has mark_cmp (outer_mark face) marks ≡ true → is_marked marks face ≡ true
 carries face marks there =
     any-at mark_cmp-IsAntisymmetric (λ mark. eq_by_cmp (slice_cmp place_cmp) (corners_of mark.cell) face) (outer_mark face) marks there (ap is_eq (tied_itself (lists_total place_cmp_total) face))
 
-pub faces_met : (raw : Raw) (shift : ℕ) (tets : List Tetrahedron) → AreSolid tets → AllPairs AreApart tets → (phys elem : ℤ) (face : List Coordinates)
+pub faces_met : (raw : Raw) (shift : ℕ) (tets : List Tetrahedron) → AreNotFlat tets → AllPairs AreApart tets → (phys elem : ℤ) (face : List Coordinates)
     → IsPairedOrMarked (holders phys elem face tets) face (found_marks raw shift tets)
-faces_met raw shift tets solid apart phys elem face =
+faces_met raw shift tets not_flat apart phys elem face =
     let side : Side = (face, (phys, elem)) in
     subst (λ n. IsPairedOrMarked n face (found_marks raw shift tets)) (count_holders phys elem face tets)
     (elim (which (count_by (has_side side) tets) (had_twice side tets apart)) [
       | inl none ↦ inl none
       | inr some ↦ elim some [
         | inl twice ↦ inr (inl twice)
-        | inr once ↦ inr (inr (once, carries face (found_marks raw shift tets) (outer_face raw shift tets solid phys elem face (sym (count_holders phys elem face tets) ∙ once))))
+        | inr once ↦ inr (inr (once, carries face (found_marks raw shift tets) (outer_face raw shift tets not_flat phys elem face (sym (count_holders phys elem face tets) ∙ once))))
       ]
     ])

@@ -19,11 +19,12 @@ use Rattle.ma_cells.specs.declared.cell.Cell.TheVariants.{Point, Seg, Tri}
 use Rattle.msh_read.specs.declared.raw.RawMark.{RawMark}
 use Rattle.msh_read.specs.declared.raw.RawTet.{RawTet}
 use Rattle.msh_read.specs.Raw.{Raw}
-use Rattle.mesh_check.specs.Accepted.{corner_places, mark_at, place_at, places_at, solid_at, solids_at}
-use Rattle.mesh_check.specs.FoundMarks.{kept_mark, moved_mark}
+use Rattle.mesh_check.specs.Accepted.{corner_places, mark_at, place_at, places_at, tetrahedron_at, tetrahedra_at}
+use Rattle.mesh_check.specs.steps.FoundMarks.{kept_mark, shifted_mark}
 use Rattle.ma_cells.specs.Incidence.{is_on}
-use Rattle.mesh_check.specs.Places.{corner_positions, is_in_range, place_of}
-use Rattle.mesh_check.specs.Solids.{places_of}
+use Rattle.mesh_check.specs.Places.{corner_positions, is_in_range}
+use Rattle.mesh_check.specs.steps.ShiftedPlaces.{place_of}
+use Rattle.mesh_check.specs.steps.Tetrahedra.{places_of}
 use Rattle.ma_cells.proofs.SetItems.{all-ascending_of, from-ascending_of}
 
 split : {K : Type 0} (P : K → Type 0) (xs ys : List K) → AllByRecursion P (xs ++ ys) → AllByRecursion P xs × AllByRecursion P ys
@@ -87,9 +88,9 @@ unmapped raw shift [] h = tt
 unmapped raw shift (p ∷ ps) h = (h.0, unmapped raw shift ps h.1)
 
 -- the corners of each tetrahedron are in range
-solids-in : (raw : Raw) (shift : ℕ) (tets : List RawTet) → AllByRecursion (TetIn raw shift) tets → AllByRecursion (λ (t : Tetrahedron). AllByRecursion In t.corners) (map (solid_at raw shift) tets)
-solids-in raw shift [] h = tt
-solids-in raw shift (tet ∷ tets) h = (all-ascending_of place_cmp In (places_at raw shift tet.at) (mapped raw shift tet.at h.0), solids-in raw shift tets h.1)
+tetrahedra-in : (raw : Raw) (shift : ℕ) (tets : List RawTet) → AllByRecursion (TetIn raw shift) tets → AllByRecursion (λ (t : Tetrahedron). AllByRecursion In t.corners) (map (tetrahedron_at raw shift) tets)
+tetrahedra-in raw shift [] h = tt
+tetrahedra-in raw shift (tet ∷ tets) h = (all-ascending_of place_cmp In (places_at raw shift tet.at) (mapped raw shift tet.at h.0), tetrahedra-in raw shift tets h.1)
 
 corner-in : (q : Coordinates) (corners : List Coordinates) → AllByRecursion In corners → has place_cmp q corners ≡ true → In q
 corner-in q [] h e = absurd (false≢true e)
@@ -127,11 +128,11 @@ cell_of-corners places cell e =
     ] e
 
 -- a mark with a place out of range is on no cell of a tetrahedron
-pub mark-is : (raw : Raw) (shift : ℕ) → AllByRecursion (TetIn raw shift) raw.tets → (mark : RawMark) → kept_mark (is_on (solids_at raw shift)) raw.nodes shift mark ≡ mark_at raw shift mark
-unfolding moved_mark
+pub mark-is : (raw : Raw) (shift : ℕ) → AllByRecursion (TetIn raw shift) raw.tets → (mark : RawMark) → kept_mark (is_on (tetrahedra_at raw shift)) raw.nodes shift mark ≡ mark_at raw shift mark
+unfolding shifted_mark
 mark-is raw shift within mark =
     let at : List ℕ = mark.at.items in
-    let keep : CellMark → Option CellMark = λ m. cond (is_on (solids_at raw shift) m.cell) (Some m) None in
+    let keep : CellMark → Option CellMark = λ m. cond (is_on (tetrahedra_at raw shift) m.cell) (Some m) None in
     let make : Cell → CellMark = λ cell. record { cell = cell; phys = mark.phys; elem = mark.elem } in
     let marks : List Coordinates → Option CellMark = λ corners. option_map make (cell_of corners) in
     ⊎_elim
@@ -139,9 +140,9 @@ mark-is raw shift within mark =
     (λ none. ap (λ found. option_and_then keep (option_and_then marks found)) none
     ∙ elim (cell_of (places_at raw shift at)) as (λ found. cell_of (places_at raw shift at) ≡ found → None ≡ option_and_then keep (option_map make found)) [
       | None ↦ λ _. refl
-      | Some cell ↦ λ is. elim (is_on (solids_at raw shift) cell) as (λ b. is_on (solids_at raw shift) cell ≡ b → None ≡ cond b (Some (make cell)) None) [
+      | Some cell ↦ λ is. elim (is_on (tetrahedra_at raw shift) cell) as (λ b. is_on (tetrahedra_at raw shift) cell ≡ b → None ≡ cond b (Some (make cell)) None) [
         | true ↦ λ on.
-            let corners = cell-in cell (solids_at raw shift) (solids-in raw shift raw.tets within) on in
+            let corners = cell-in cell (tetrahedra_at raw shift) (tetrahedra-in raw shift raw.tets within) on in
             let places = from-ascending_of place_cmp-IsAntisymmetric In (places_at raw shift at) (subst (AllByRecursion In) (cell_of-corners (places_at raw shift at) cell is) corners) in
             let found = places-in raw shift at (unmapped raw shift at places) in
             let clash : ◌≡◌ {A = Option (List Coordinates)} None (Some (places_at raw shift at)) = sym none ∙ found in

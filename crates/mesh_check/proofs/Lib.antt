@@ -2,7 +2,7 @@ pub mod Tied
 pub mod Ranges
 pub mod Numbered
 pub mod Alone
-pub mod CellSets
+pub mod FoundCells
 pub mod Marking
 pub mod Whole
 pub mod InRange

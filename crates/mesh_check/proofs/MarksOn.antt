@@ -2,7 +2,7 @@
 use Rattle.std.proofs.Common.{◌≡◌, ℕ, Bool, true, false, cond, ◌||◌, List, [], ◌∷◌, ◌++◌, Option, Some, None, option_map, refl, sym, ap, subst}
 use Rattle.std.specs.Prelude.{ℤ, pos, map, IfSome}
 use Rattle.std.specs.Cmp.{IsTotalOrder, tied_itself}
-use Rattle.std.specs.List.{AllByRecursion, cons_option, filter_map, flat_map, list_all, list_any}
+use Rattle.std.specs.List.{AllByRecursion, filter_map, flat_map, list_all, list_any}
 use Rattle.std.specs.Option.{option_and_then}
 use Rattle.std.specs.Ordering.{eq_by_cmp, is_eq}
 use Rattle.std.specs.declared.cmp.Ordering.{Ordering}
@@ -18,25 +18,13 @@ use Rattle.ma_cells.specs.declared.cell.Cell.{Cell}
 use Rattle.ma_cells.proofs.Choices.{all-append, all-choices}
 use Rattle.msh_read.specs.declared.raw.RawMark.{RawMark}
 use Rattle.msh_read.specs.Raw.{Raw}
-use Rattle.mesh_check.specs.FoundMarks.{found_marks, kept_mark, moved_mark}
+use Rattle.mesh_check.specs.steps.FoundMarks.{found_marks, kept_mark, shifted_mark}
 use Rattle.mesh_check.specs.Lone.{lone}
 use Rattle.ma_cells.specs.Incidence.{is_on}
 use Rattle.mesh_check.specs.Marks.{outer_marks, side_cmp, sides_of}
 use Rattle.mesh_check.proofs.InRange.{cell_of-corners}
 use Rattle.ma_cells.proofs.SetItems.{all-ascending_of}
-use Rattle.ma_cells.proofs.Passing.{all_pass, test_all, all_weaker, all-filter, all_anyway, any-weaker}
-
--- ---- what holds of each item
-
-all-filter_map : {X Y : Type 0} (P : X → Type 0) (Q : Y → Type 0) (h : X → Option Y) → ((x : X) → P x → IfSome (h x) Q) → (xs : List X) → AllByRecursion P xs → AllByRecursion Q (filter_map h xs)
-all-filter_map P Q h gives [] all = tt
-all-filter_map P Q h gives (x ∷ xs) all =
-    let rest = all-filter_map P Q h gives xs all.1 in
-    elim (h x) as (λ o. IfSome o Q → AllByRecursion Q (cons_option o (filter_map h xs))) [ None ↦ λ _. rest | Some y ↦ λ holds. (holds, rest) ] (gives x all.0)
-  where
-    or_true : (b : Bool) → (b || true) ≡ true
-    or_true true = refl
-    or_true false = refl
+use Rattle.ma_cells.proofs.Passing.{all-filter_map, all_pass, test_all, all_weaker, all-filter, all_anyway, any-weaker}
 
 has_each : {K : Type 0} {R : K → K → Ordering} → IsTotalOrder R → (xs : List K) → AllByRecursion (λ x. has R x xs ≡ true) xs
 has_each o [] = tt
@@ -87,7 +75,7 @@ outer_on tets s on =
 pub marks_on_cells : (raw : Raw) (shift : ℕ) (tets : List Tetrahedron) → list_all (λ mark. is_on tets mark.cell) (found_marks raw shift tets) ≡ true
 marks_on_cells raw shift tets =
     let kept : List CellMark = filter_map (kept_mark (is_on tets) raw.nodes shift) raw.marks in
-    let kept_all = all-filter_map (λ (m : RawMark). Unit {0}) (On tets) (kept_mark (is_on tets) raw.nodes shift) (λ m _. kept_on (is_on tets) (moved_mark raw.nodes shift m)) raw.marks (all_anyway raw.marks) in
+    let kept_all = all-filter_map (λ (m : RawMark). Unit {0}) (On tets) (kept_mark (is_on tets) raw.nodes shift) (λ m _. kept_on (is_on tets) (shifted_mark raw.nodes shift m)) raw.marks (all_anyway raw.marks) in
     let sides = all-filter (SideOn tets) _ (flat_map sides_of tets) (sides_on tets) in
     let outer_all = all-filter_map (SideOn tets) (On tets) (λ side. mark_on side.0 (pos 0) (pos 0)) (outer_on tets) (lone side_cmp (flat_map sides_of tets)) sides in
     test_all (λ mark. is_on tets mark.cell) (found_marks raw shift tets) (all-ascending_of mark_cmp (On tets) (kept ++ outer_marks tets) (all-append (On tets) kept (outer_marks tets) kept_all outer_all))

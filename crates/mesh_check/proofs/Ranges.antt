@@ -3,7 +3,8 @@ use Rattle.std.proofs.Common.{◌≡◌, ℕ, ◌^◌, cond, Option, Some, None,
 use Rattle.std.specs.Prelude.{ℤ, pos, ◌*ℤ◌}
 use Rattle.std.proofs.lemmas.Option.{cond_some}
 use Rattle.ma_geom.specs.Coordinates.{Coordinates}
-use Rattle.mesh_check.specs.Places.{is_near, shifted, within_range}
+use Rattle.mesh_check.specs.Places.{is_near, shifted}
+use Rattle.mesh_check.specs.steps.ShiftedPlaces.{within_range}
 
 -- a coordinate after the shift, if it is in range
 abbrev scaled : ℕ → ℤ → Option ℤ

@@ -8,24 +8,24 @@ use Rattle.ma_cells.specs.Tetrahedron.{Tetrahedron, are_corners, are_tetrahedra}
 use Rattle.overlap_check.specs.Overlap.{first_overlap_of}
 use Rattle.overlap_check.proofs.NoOverlap.{all_separated, no_overlap_covers_once}
 use Rattle.msh_read.specs.Raw.{Raw}
-use Rattle.mesh_check.specs.FoundMarks.{found_marks}
+use Rattle.mesh_check.specs.steps.FoundMarks.{found_marks}
 use Rattle.ma_cover.specs.Sound.{IsSound}
 use Rattle.mesh_check.specs.Accepted.{IsAcceptedMesh}
-use Rattle.mesh_check.proofs.FaceCounts.{AreApart, AreSolid, faces_met, lie_apart, outer_face}
+use Rattle.mesh_check.proofs.FaceCounts.{AreApart, AreNotFlat, faces_met, lie_apart, outer_face}
 use Rattle.mesh_check.proofs.MarksOn.{marks_on_cells}
 
-all_apart : (tets : List Tetrahedron) → AreSolid tets → first_overlap_of tets ≡ None → AllPairs AreApart tets
-all_apart tets solid none = λ i j d low high. (solid i d (omega (arith, low, high)), (solid j d high, all_separated tets none i j d low high))
+all_apart : (tets : List Tetrahedron) → AreNotFlat tets → first_overlap_of tets ≡ None → AllPairs AreApart tets
+all_apart tets not_flat none = λ i j d low high. (not_flat i d (omega (arith, low, high)), (not_flat j d high, all_separated tets none i j d low high))
 
 pub mesh_is_sound : (raw : Raw) (shift : ℕ) (tets : List Tetrahedron) → are_tetrahedra tets ≡ true → first_overlap_of tets ≡ None
     → IsSound tets (found_marks raw shift tets)
 mesh_is_sound raw shift tets are none =
-    let solid = AllPass-from_list_all (λ tet. are_corners tet.corners) tets are in
-    let apart = all_apart tets solid none in
+    let not_flat = AllPass-from_list_all (λ tet. are_corners tet.corners) tets are in
+    let apart = all_apart tets not_flat none in
     record {
       conforming = record {
         sides = λ i j d low high. lie_apart (get_or tets i d) (get_or tets j d) (apart i j d low high);
-        faces = λ phys elem face. faces_met raw shift tets solid apart phys elem face;
+        faces = λ phys elem face. faces_met raw shift tets not_flat apart phys elem face;
         on_cells = marks_on_cells raw shift tets;
       };
       once = λ p _. no_overlap_covers_once p tets none;

@@ -15,7 +15,7 @@ use Rattle.ma_geom.proofs.PlaceOrder.{both_tie}
 use Rattle.ma_cells.specs.Ascending.{ascending_of, put}
 use Rattle.ma_cells.proofs.Ascents.{sorted-ascending_of}
 use Rattle.mesh_check.specs.Pairs.{first_pair, first_with, paired}
-use Rattle.mesh_check.specs.Ties.{lower, lowest_tie, numbered_cmp, tie}
+use Rattle.mesh_check.specs.steps.Ties.{lower, lowest_tie, numbered_cmp, tie}
 use Rattle.ma_cells.proofs.SetItems.{all-ascending_of}
 
 lower-none : (p : Option (ℕ × ℕ)) → lower p None ≡ p

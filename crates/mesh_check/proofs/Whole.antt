@@ -7,11 +7,11 @@ use Rattle.ma_cells.specs.Tetrahedron.{Tetrahedron}
 use Rattle.msh_read.specs.Raw.{Raw}
 use Rattle.msh_read.specs.Steps.{◌>>=◌, ◌>>◌}
 use Rattle.mesh_check.specs.Accepted.{apart}
-use Rattle.mesh_check.specs.FoundMarks.{found_of, found_loose, found_marks}
-use Rattle.mesh_check.specs.Solids.{tets_of}
+use Rattle.mesh_check.specs.steps.FoundMarks.{found_of, found_loose, found_marks}
+use Rattle.mesh_check.specs.steps.Tetrahedra.{found_tets}
 
 -- the mesh with these tetrahedra, read once as a slice, and with its marks
-pub found-is : (raw : Raw) (shift : ℕ) (tets slice : List Tetrahedron) (marks : List CellMark) (loose : ℕ) (mesh : MarkedMesh) → tets_of raw shift ≡ Ok tets → apart tets ≡ Ok tt → slice ≡ tets
+pub found-is : (raw : Raw) (shift : ℕ) (tets slice : List Tetrahedron) (marks : List CellMark) (loose : ℕ) (mesh : MarkedMesh) → found_tets raw shift ≡ Ok tets → apart tets ≡ Ok tt → slice ≡ tets
     → marks ≡ found_marks raw shift slice → loose ≡ found_loose raw shift slice → mesh ≡ record { tets = tets; marks = marks; loose = loose } → found_of raw shift ≡ Ok mesh
 unfolding found_of
 found-is raw shift tets slice marks loose mesh found parted same m l is =

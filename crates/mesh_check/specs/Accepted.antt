@@ -16,7 +16,7 @@ use Rattle.msh_read.specs.Steps.{◌>>◌, check}
 use Rattle.mesh_check.specs.declared.fault.MeshFault.{MeshFault}
 use Rattle.mesh_check.specs.declared.fault.MeshFault.TheVariants.{NoTets, TooManyTets, TooFar, SamePlace, Flat, Repeated, Overlap}
 use Rattle.overlap_check.specs.Overlap.{first_overlap_of}
-use Rattle.mesh_check.specs.Pairs.{first_pair, numbered}
+use Rattle.mesh_check.specs.Pairs.{first_pair, numbered_from}
 use Rattle.mesh_check.specs.Places.{corner_positions, is_in_range, shifted}
 use Rattle.ma_cells.specs.Incidence.{is_on}
 use Rattle.ma_cover.specs.Cover.{whole_cover}
@@ -24,8 +24,8 @@ use Rattle.ma_cover.specs.Sound.{holders}
 use Rattle.mesh_check.specs.Marks.{outer_mark, outer_marks}
 
 -- how many tetrahedra a mesh may have
-abbrev pub most_tets : ℕ
-most_tets = 200000
+abbrev pub most_accepted_tets : ℕ
+most_accepted_tets = 200000
 
 -- the place of a node after the shift
 abbrev pub place_at : Raw → ℕ → ℕ → Coordinates
@@ -39,27 +39,27 @@ abbrev pub corner_places : Raw → ℕ → List (Coordinates × ℕ)
 corner_places raw shift = map (λ at. (place_at raw shift at, at + 1)) (corner_positions raw.tets)
 
 -- a tetrahedron after the shift
-abbrev pub solid_at : Raw → ℕ → RawTet → Tetrahedron
-solid_at raw shift tet = record { corners = ascending_of place_cmp (places_at raw shift tet.at); phys = tet.phys; elem = tet.elem }
+abbrev pub tetrahedron_at : Raw → ℕ → RawTet → Tetrahedron
+tetrahedron_at raw shift tet = record { corners = ascending_of place_cmp (places_at raw shift tet.at); phys = tet.phys; elem = tet.elem }
 
 -- all tetrahedra, in file order
-abbrev pub solids_at : Raw → ℕ → List Tetrahedron
-solids_at raw shift = map (solid_at raw shift) raw.tets
+abbrev pub tetrahedra_at : Raw → ℕ → List Tetrahedron
+tetrahedra_at raw shift = map (tetrahedron_at raw shift) raw.tets
 
 -- a mark after the shift, if its places are those of a corner, an edge or a face of a tetrahedron
 abbrev pub mark_at : Raw → ℕ → RawMark → Option CellMark
 mark_at raw shift mark =
-    option_and_then (λ moved. if is_on (solids_at raw shift) moved.cell then Some moved else None) (mark_on (places_at raw shift mark.at.items) mark.phys mark.elem)
+    option_and_then (λ moved. if is_on (tetrahedra_at raw shift) moved.cell then Some moved else None) (mark_on (places_at raw shift mark.at.items) mark.phys mark.elem)
 
 -- the marks of the file that are on cells of tetrahedra, and those on outer faces, as a set
-abbrev pub marks_at : Raw → ℕ → List CellMark
-marks_at raw shift = ascending_of mark_cmp (filter_map (mark_at raw shift) raw.marks ++ outer_marks (solids_at raw shift))
+abbrev pub accepted_marks : Raw → ℕ → List CellMark
+accepted_marks raw shift = ascending_of mark_cmp (filter_map (mark_at raw shift) raw.marks ++ outer_marks (tetrahedra_at raw shift))
 
 -- the mesh after the shift, and how many marks of the file are on no cell of a tetrahedron
 abbrev pub mesh_at : Raw → ℕ → MarkedMesh
 mesh_at raw shift = record {
-  tets = solids_at raw shift;
-  marks = marks_at raw shift;
+  tets = tetrahedra_at raw shift;
+  marks = accepted_marks raw shift;
   loose = count_by (λ mark. is_none (mark_at raw shift mark)) raw.marks;
 }
 
@@ -85,12 +85,12 @@ apart tets = no_pair Overlap (option_map from_one (first_overlap_of tets))
 unfoldable pub accepted_of : Raw → ℕ → Result MarkedMesh MeshFault
 accepted_of raw shift = do
   check NoTets (not (length raw.tets == 0))
-  check (TooManyTets (length raw.tets)) (not (nat_lt most_tets (length raw.tets)))
+  check (TooManyTets (length raw.tets)) (not (nat_lt most_accepted_tets (length raw.tets)))
   no_item TooFar (find (λ corner. not (is_in_range corner.0)) (corner_places raw shift))
   no_pair SamePlace (first_pair place_cmp (corner_places raw shift))
-  no_item Flat (find (λ solid. is_flat solid.0.corners) (numbered 1 (solids_at raw shift)))
-  no_pair Repeated (first_pair (slice_cmp place_cmp) (numbered 1 (corner_sets (solids_at raw shift))))
-  apart (solids_at raw shift)
+  no_item Flat (find (λ tetrahedron. is_flat tetrahedron.0.corners) (numbered_from 1 (tetrahedra_at raw shift)))
+  no_pair Repeated (first_pair (slice_cmp place_cmp) (numbered_from 1 (corner_sets (tetrahedra_at raw shift))))
+  apart (tetrahedra_at raw shift)
   Ok (mesh_at raw shift)
 
 -- What holds of an accepted mesh beyond soundness

@@ -4,6 +4,4 @@ pub mod Lone
 pub mod Marks
 pub mod Accepted
 pub mod Answer
-pub mod Ties
-pub mod Solids
-pub mod FoundMarks
+pub mod steps

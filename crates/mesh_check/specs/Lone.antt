@@ -1,5 +1,5 @@
--- Items that stand once in a list, and how they are found in a sorted one.
-use Rattle.std.specs.Prelude.{◌==◌, Bool, true, not, ◌&&◌, if◌then◌else◌, List, [], ◌∷◌, Option, Some, None, count_by}
+-- Items that stand once in a list.
+use Rattle.std.specs.Prelude.{◌==◌, List, count_by}
 use Rattle.std.specs.declared.cmp.Ordering.{Ordering}
 use Rattle.std.specs.List.{filter}
 use Rattle.std.specs.Ordering.{eq_by_cmp}
@@ -7,17 +7,3 @@ use Rattle.std.specs.Ordering.{eq_by_cmp}
 -- the items that stand once
 abbrev pub lone : {K : Type 0} → (K → K → Ordering) → List K → List K
 lone R items = filter (λ x. count_by (eq_by_cmp R x) items == 1) items
-
--- whether x is not the other
-abbrev pub differs : {K : Type 0} → (K → K → Ordering) → K → Option K → Bool
-differs R x None = true
-differs R x (Some y) = not (eq_by_cmp R x y)
-
-abbrev pub first_of : {K : Type 0} → List K → Option K
-first_of [] = None
-first_of (x ∷ xs) = Some x
-
--- the items that are neither the one before nor the one behind, where `last` stands before them all
-abbrev pub lone_after : {K : Type 0} → (K → K → Ordering) → Option K → List K → List K
-lone_after R last [] = []
-lone_after R last (x ∷ xs) = if differs R x last && differs R x (first_of xs) then x ∷ lone_after R (Some x) xs else lone_after R (Some x) xs

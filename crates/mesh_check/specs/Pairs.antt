@@ -4,9 +4,9 @@ use Rattle.std.specs.declared.cmp.Ordering.{Ordering}
 use Rattle.std.specs.Ordering.{eq_by_cmp}
 
 -- the items with numbers that count from n
-abbrev pub numbered : {X : Type 0} → ℕ → List X → List (X × ℕ)
-numbered n [] = []
-numbered n (x ∷ xs) = (x, n) ∷ numbered (n + 1) xs
+abbrev pub numbered_from : {X : Type 0} → ℕ → List X → List (X × ℕ)
+numbered_from n [] = []
+numbered_from n (x ∷ xs) = (x, n) ∷ numbered_from (n + 1) xs
 
 -- the number of the first item that has the key
 abbrev pub first_with : {K : Type 0} → (K → K → Ordering) → K → List (K × ℕ) → Option ℕ

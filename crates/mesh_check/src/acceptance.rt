@@ -4,12 +4,12 @@ ghost use Rattle.ma_cells.specs.Tetrahedron.{are_tetrahedra};
 ghost use Rattle.msh_read.specs.Raw.{raw};
 ghost use Rattle.mesh_check.specs.Accepted.{IsAcceptedMesh, accepted_of, apart};
 ghost use Rattle.mesh_check.specs.Answer.{Answers};
-ghost use Rattle.mesh_check.specs.FoundMarks.{found_of};
+ghost use Rattle.mesh_check.specs.steps.FoundMarks.{found_of};
 ghost use Rattle.ma_cover.specs.Sound.{IsSound};
 
 use crate::fault::MeshFault;
 use crate::marks::marks;
-use crate::solids::tets;
+use crate::tetrahedra::tets;
 use ma_cells::{Mesh, Tet};
 use ma_geom::Memory;
 use msh_read::RawMesh;
@@ -29,7 +29,7 @@ fn apart(alloc: Global, tets: &[Tet]) -> Result<(), MeshFault>
     }
 }
 
-#[tactic(auto, unfolding(crate::specs::FoundMarks::found_of))]
+#[tactic(auto, unfolding(crate::specs::steps::FoundMarks::found_of))]
 fn found(alloc: Global, mesh: &RawMesh, shift: u32) -> Result<Mesh, MeshFault>
     requires { shift ≤ 30 }
     ensures value { Answers (λ mesh. mesh) result (found_of (raw mesh.now) shift) }

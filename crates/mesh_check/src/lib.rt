@@ -9,7 +9,7 @@ mod lone;
 mod marks;
 mod pairs;
 mod places;
-mod solids;
+mod tetrahedra;
 
 pub use acceptance::accept;
 pub use fault::MeshFault;

@@ -2,7 +2,8 @@
 ghost use Rattle.std.specs.Prelude.{◌≡◌, Bool, None, IfOk};
 ghost use Rattle.std.specs.List.{list_any};
 ghost use Rattle.std.specs.Option.{option_copied};
-ghost use Rattle.mesh_check.specs.Lone.{differs, lone, lone_after};
+ghost use Rattle.mesh_check.specs.Lone.{lone};
+ghost use Rattle.mesh_check.specs.steps.Neighbours.{differs, lone_after};
 
 use ma_geom::Memory;
 use std::alloc::Global;

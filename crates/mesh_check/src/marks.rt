@@ -1,16 +1,18 @@
 // The marks of an accepted mesh.
-ghost use Rattle.std.specs.Prelude.{◌≡◌, ◌≤◌, ◌∷◌, [], ◌++◌, Bool, pos, IfOk, OnOk, count_by};
+ghost use Rattle.std.specs.Prelude.{◌≡◌, ◌≤◌, ◌∷◌, [], ◌++◌, ◌&&◌, Bool, pos, length, map, filter, IfOk, OnOk};
+ghost use Rattle.std.specs.List.Sorted.{IsStrictlySortedBy};
 ghost use Rattle.std.specs.List.{filter_map, flat_map, list_any};
-ghost use Rattle.std.specs.Option.{is_none, option_to_list};
+ghost use Rattle.std.specs.Option.{option_to_list};
 ghost use Rattle.ma_cells.specs.Ascending.{ascending_of, has};
 ghost use Rattle.ma_cells.specs.Cells.{CellMark, cell_cmp, mark_cmp, mark_on};
+ghost use Rattle.ma_cells.specs.declared.cell.Cell.{Cell};
 ghost use Rattle.msh_read.specs.Raw.{raw};
-ghost use Rattle.mesh_check.specs.Solids.{places_of};
+ghost use Rattle.mesh_check.specs.steps.Tetrahedra.{places_of};
 ghost use Rattle.ma_cells.specs.Incidence.{is_on};
 ghost use Rattle.mesh_check.specs.Marks.{outer_marks, sides_of};
-ghost use Rattle.mesh_check.specs.FoundMarks.{kept_mark, found_loose, found_marks, moved_mark};
+ghost use Rattle.mesh_check.specs.steps.FoundMarks.{kept_mark, found_loose, found_marks, shifted_mark};
 
-use crate::cells::{cell_set, has_cell};
+use crate::cells::{found_on, is_found, marked_cells};
 use crate::lone::lone;
 use crate::places::place;
 use ma_cells::{Ascending, Cell, Mark, Tet};
@@ -51,10 +53,10 @@ fn three_places(nodes: &[Place], shift: u32, a: u32, b: u32, c: u32) -> Option<[
 }
 
 /// A mark after the shift. None where two of its places are equal, or one is out of range.
-#[tactic(auto, unfolding(crate::specs::FoundMarks::moved_mark))]
-fn moved_mark(nodes: &[Place], shift: u32, mark: &RawMark) -> Option<Mark>
+#[tactic(auto, unfolding(crate::specs::steps::FoundMarks::shifted_mark))]
+fn shifted_mark(nodes: &[Place], shift: u32, mark: &RawMark) -> Option<Mark>
     requires { shift ≤ 30 }
-    ensures { result ≡ moved_mark nodes.now shift mark.now }
+    ensures { result ≡ shifted_mark nodes.now shift mark.now }
 {
     match mark.at.as_slice() {
         [a] => {
@@ -73,19 +75,6 @@ fn moved_mark(nodes: &[Place], shift: u32, mark: &RawMark) -> Option<Mark>
     }
 }
 
-/// The mark after the shift, if its cell is among these.
-fn kept_mark(nodes: &[Place], shift: u32, cells: &Ascending<Cell>, mark: &RawMark) -> Option<Mark>
-    requires { shift ≤ 30 }
-    ensures { result ≡ kept_mark (λ cell. has cell_cmp cell cells.now) nodes.now shift mark.now }
-{
-    let moved = moved_mark(nodes, shift, mark)?;
-    if has_cell(cells, moved.cell()) {
-        Some(moved)
-    } else {
-        None
-    }
-}
-
 /// Puts a mark, if there is one, behind others.
 fn push_if_any(marks: &mut Vec<Mark>, mark: Option<Mark>) -> Result<(), Memory>
     ensures { OnOk result (marks.new.items ≡ marks.old.items ++ option_to_list mark) }
@@ -96,26 +85,31 @@ fn push_if_any(marks: &mut Vec<Mark>, mark: Option<Mark>) -> Result<(), Memory>
     Ok(())
 }
 
-/// The marks whose cells are among these, and the number of the others.
-fn kept_marks(
+/// The marks after the shift.
+fn shifted_marks(
     alloc: Global,
     nodes: &[Place],
     shift: u32,
-    cells: &Ascending<Cell>,
     marks: &[RawMark],
-) -> Result<(Vec<Mark>, u64), Memory>
+) -> Result<Vec<Mark>, Memory>
     requires { shift ≤ 30 }
-    ensures marks { IfOk result (λ kept. kept.0.items ≡ filter_map (kept_mark (λ cell. has cell_cmp cell cells.now) nodes.now shift) marks.now) }
-    ensures loose { IfOk result (λ kept. kept.1 ≡ count_by (λ mark. is_none (kept_mark (λ cell. has cell_cmp cell cells.now) nodes.now shift mark)) marks.now) }
+    ensures { IfOk result (λ moved. moved.items ≡ filter_map (shifted_mark nodes.now shift) marks.now) }
 {
-    let mut kept = Vec::new(alloc);
-    let mut loose = 0;
+    let mut moved = Vec::with_capacity(alloc, marks.len())?;
     for mark in marks {
-        let found = kept_mark(nodes, shift, cells, mark);
-        loose += u64::from(found.is_none());
-        push_if_any(&mut kept, found)?;
+        push_if_any(&mut moved, shifted_mark(nodes, shift, mark))?;
     }
-    Ok((kept, loose))
+    Ok(moved)
+}
+
+/// The marks whose cells were found among those that are looked for.
+fn keep_found(mut marks: Vec<Mark>, wanted: &[Cell], found: &[bool]) -> Vec<Mark>
+    requires rises { IsStrictlySortedBy cell_cmp wanted.now }
+    requires as_many { length found.now ≡ length wanted.now }
+    ensures { (test : Cell → Bool) → found.now ≡ map test wanted.now → result.items ≡ filter (λ mark. has cell_cmp mark.cell wanted.now && test mark.cell) marks.items }
+{
+    marks.retain(|mark| is_found(wanted, found, &mark.cell()));
+    marks
 }
 
 /// The faces of a tetrahedron with its region.
@@ -131,7 +125,7 @@ fn sides_of(tet: &Tet) -> [Side; 4]
 fn sides(alloc: Global, tets: &[Tet]) -> Result<Vec<Side>, Memory>
     ensures { IfOk result (λ sides. sides.items ≡ flat_map sides_of tets.now) }
 {
-    let mut sides = Vec::new(alloc);
+    let mut sides = Vec::with_capacity(alloc, tets.len().saturating_mul(4))?;
     for tet in tets {
         sides.extend_from_slice(&sides_of(tet))?;
     }
@@ -144,26 +138,24 @@ fn side_mark(side: Side) -> Option<Mark>
     mark_on(&side.0, 0, 0)
 }
 
-/// The marks with tag (0, 0) on these faces.
-fn side_marks(alloc: Global, sides: &[Side]) -> Result<Vec<Mark>, Memory>
-    ensures { IfOk result (λ marks. marks.items ≡ filter_map (λ side. mark_on side.0 (pos 0) (pos 0)) sides.now) }
+/// Puts the marks with tag (0, 0) on these faces behind others.
+fn push_side_marks(marks: &mut Vec<Mark>, sides: &[Side]) -> Result<(), Memory>
+    ensures { OnOk result (marks.new.items ≡ marks.old.items ++ filter_map (λ side. mark_on side.0 (pos 0) (pos 0)) sides.now) }
 {
-    let mut marks = Vec::with_capacity(alloc, sides.len())?;
     for side in sides {
-        push_if_any(&mut marks, side_mark(*side))?;
+        push_if_any(marks, side_mark(*side))?;
     }
-    Ok(marks)
+    Ok(())
 }
 
-/// The marks with tag (0, 0) on faces that no other tetrahedron of the same region has, in some
-/// order.
-fn outer_marks(alloc: Global, tets: &[Tet]) -> Result<Vec<Mark>, Memory>
-    ensures { IfOk result (λ marks. (test : CellMark → Bool) → list_any test marks.items ≡ list_any test (outer_marks tets.now)) }
+/// Puts the marks with tag (0, 0) on faces that no other tetrahedron of the same region has, in some
+/// order, behind others.
+fn push_outer_marks(alloc: Global, marks: &mut Vec<Mark>, tets: &[Tet]) -> Result<(), Memory>
+    ensures { OnOk result ((test : CellMark → Bool) → list_any test marks.new.items ≡ list_any test (marks.old.items ++ outer_marks tets.now)) }
 {
     let sides = sides(alloc, tets)?;
     let outer = lone(alloc, sides)?;
-    let marks = side_marks(alloc, outer.as_slice())?;
-    Ok(marks)
+    push_side_marks(marks, outer.as_slice())
 }
 
 fn mark_set(marks: Vec<Mark>) -> Ascending<Mark>
@@ -172,7 +164,7 @@ fn mark_set(marks: Vec<Mark>) -> Ascending<Mark>
     Ascending::gather(marks)
 }
 
-/// The marks on cells of these tetrahedra, and the number of the others.
+/// The marks of the file on cells of these tetrahedra, and the number of the others.
 fn marks_on(
     alloc: Global,
     mesh: &RawMesh,
@@ -183,15 +175,13 @@ fn marks_on(
     ensures marks { IfOk result (λ kept. kept.0.items ≡ filter_map (kept_mark (is_on tets.now) (raw mesh.now).nodes shift) (raw mesh.now).marks) }
     ensures loose { IfOk result (λ kept. kept.1 ≡ found_loose (raw mesh.now) shift tets.now) }
 {
-    let cells = cell_set(alloc, tets)?;
-    let kept = kept_marks(
-        alloc,
-        mesh.nodes.as_slice(),
-        shift,
-        &cells,
-        mesh.marks.as_slice(),
-    )?;
-    Ok(kept)
+    let marks = mesh.marks.as_slice();
+    let moved = shifted_marks(alloc, mesh.nodes.as_slice(), shift, marks)?;
+    let cells = marked_cells(alloc, moved.as_slice())?;
+    let found = found_on(alloc, cells.as_slice(), tets)?;
+    let kept = keep_found(moved, cells.as_slice(), found.as_slice());
+    let loose = (marks.len() - kept.len()) as u64;
+    Ok((kept, loose))
 }
 
 /// The set of marks of the mesh with these tetrahedra, and the number of loose ones.
@@ -206,7 +196,6 @@ pub fn marks(
     ensures loose { IfOk result (λ all. all.1 ≡ found_loose (raw mesh.now) shift tets.now) }
 {
     let (mut marks, loose) = marks_on(alloc, mesh, shift, tets)?;
-    let outer = outer_marks(alloc, tets)?;
-    marks.extend_from_slice(outer.as_slice())?;
+    push_outer_marks(alloc, &mut marks, tets)?;
     Ok((mark_set(marks), loose))
 }

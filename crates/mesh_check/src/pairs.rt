@@ -4,7 +4,7 @@ ghost use Rattle.std.specs.FinMap.{IsAntisymmetric};
 ghost use Rattle.std.specs.List.Sorted.{IsStrictlySortedBy};
 ghost use Rattle.std.specs.Ordering.{nat_cmp};
 ghost use Rattle.mesh_check.specs.Pairs.{first_pair};
-ghost use Rattle.mesh_check.specs.Ties.{lower, lowest_tie, tie};
+ghost use Rattle.mesh_check.specs.steps.Ties.{lower, lowest_tie, tie};
 
 use ma_cells::Ascending;
 

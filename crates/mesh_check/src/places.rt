@@ -3,7 +3,8 @@ ghost use Rattle.std.specs.Prelude.{◌≡◌, ◌≤◌, ◌^◌, ◌*ℤ◌, p
 ghost use Rattle.msh_read.specs.Raw.{node_at};
 ghost use Rattle.msh_read.specs.Steps.{each};
 ghost use Rattle.mesh_check.specs.Answer.{Answers};
-ghost use Rattle.mesh_check.specs.Places.{corner_positions, is_near, numbered_place, place_of, shifted, within_range};
+ghost use Rattle.mesh_check.specs.Places.{corner_positions, is_near, shifted};
+ghost use Rattle.mesh_check.specs.steps.ShiftedPlaces.{numbered_place, place_of, within_range};
 
 use crate::fault::MeshFault;
 use ma_cells::Ascending;
@@ -67,7 +68,7 @@ fn node(nodes: &[Place], at: u32) -> Place
 }
 
 /// The place of a node after the shift, if it is in range.
-#[tactic(auto, unfolding(crate::specs::Places::place_of))]
+#[tactic(auto, unfolding(crate::specs::steps::ShiftedPlaces::place_of))]
 pub fn place(nodes: &[Place], shift: u32, at: u32) -> Option<Place>
     requires { shift ≤ 30 }
     ensures { result ≡ place_of nodes.now shift at }
@@ -87,7 +88,7 @@ pub fn corner_positions(alloc: Global, tets: &[RawTet]) -> Result<Ascending<u32>
 }
 
 /// The place of a node with its number, counted from 1.
-#[tactic(auto, unfolding(crate::specs::Places::numbered_place))]
+#[tactic(auto, unfolding(crate::specs::steps::ShiftedPlaces::numbered_place))]
 fn numbered_place(nodes: &[Place], shift: u32, at: u32) -> Result<(Place, u64), MeshFault>
     requires { shift ≤ 30 }
     ensures { Answers (λ item. item) result (numbered_place nodes.now shift at) }

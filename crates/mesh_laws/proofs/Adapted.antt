@@ -2,11 +2,11 @@
 use Rattle.std.proofs.Common.{refl}
 use Rattle.ma_cells.specs.declared.batch.Batch.{Batch}
 use Rattle.mesh_laws.specs.Adapted.{AdaptedComposes, IsSoundMesh, SoundIsAdapted}
-use Rattle.mesh_laws.specs.Points.{AreNotFlat}
+use Rattle.mesh_laws.specs.Points.{NoneIsFlat}
 use Rattle.mesh_laws.proofs.MovedOff.{same_cover_is_handed_on}
 use Rattle.mesh_laws.proofs.Sounds.{tetrahedra_not_flat}
 
-pub sound_not_flat : (mesh : Batch) → IsSoundMesh mesh → AreNotFlat mesh.tets
+pub sound_not_flat : (mesh : Batch) → IsSoundMesh mesh → NoneIsFlat mesh.tets
 sound_not_flat mesh is = tetrahedra_not_flat mesh.tets is.tetrahedra
 
 pub sound_is_adapted : SoundIsAdapted

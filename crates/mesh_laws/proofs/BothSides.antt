@@ -1,52 +1,31 @@
 -- Where no point is within two tetrahedra, those that share a face lie on both sides of it, and so no face has three.
-use Rattle.std.proofs.Common.{◌≡◌, ◌≢◌, ℕ, suc, ◌+◌, ◌≤◌, ◌⊎◌, ⊎_elim, Bool, true, false, cond, ◌||◌, List, [], ◌∷◌, refl, sym, ap, subst, ◌∙◌, arith}
+use Rattle.std.proofs.Common.{◌≡◌, ◌≢◌, ℕ, suc, ◌+◌, ◌≤◌, ◌⊎◌, ⊎_elim, Bool, true, false, cond, List, [], ◌∷◌, refl, ◌∙◌, arith}
 use Rattle.std.specs.Prelude.{ℤ, pos, neg_ℤ}
-use Rattle.std.specs.Cmp.{Equal-is, tied_itself}
-use Rattle.std.specs.Cmp.Lexicographic.{lists_total, slice_cmp}
-use Rattle.std.specs.FinMap.{slice_cmp-IsAntisymmetric}
+use Rattle.std.specs.Cmp.Lexicographic.{slice_cmp}
 use Rattle.std.specs.List.{AllByRecursion, AllPairs, count_by}
 use Rattle.std.specs.List.Sorted.{IsPermutation}
-use Rattle.std.specs.Ordering.{eq_by_cmp, is_eq}
 use Rattle.std.proofs.lemmas.Bool.{false_from_ne_true, false≢true}
 use Rattle.std.proofs.lemmas.Int.{ints}
+use Rattle.std.proofs.lemmas.List.Elements.{All-from_recursion, recursion_from_All}
 use Rattle.std.proofs.lemmas.List.Kept.{AllPairs-cons}
 use Rattle.std.proofs.lemmas.List.Sorted.{IsPermutation-append_comm, IsPermutation-cons, IsPermutation-refl, IsPermutation-sym}
 use Rattle.ma_geom.specs.Coordinates.{Coordinates, place_cmp}
 use Rattle.ma_geom.specs.Rational.{Rational}
 use Rattle.ma_geom.specs.Volume.{vol6}
-use Rattle.ma_geom.proofs.PlaceOrder.{place_cmp-IsAntisymmetric, place_cmp_total}
 use Rattle.ma_cells.specs.Ascending.{has}
 use Rattle.ma_cells.specs.Faces.{faces_of}
 use Rattle.ma_cells.specs.Tetrahedron.{is_flat}
-use Rattle.ma_cells.proofs.Passing.{all_by_index, all_from_index}
+use Rattle.ma_cells.proofs.Members.{all-at}
 use Rattle.ma_cells.proofs.Pieces.{solid_corners}
 use Rattle.ma_cover.specs.Inside.{are_alike, is_inside}
 use Rattle.ma_cover.specs.Sound.{LieOnBothSides}
 use Rattle.ma_cover.proofs.Exchanges.{inside_in_any_order}
 use Rattle.mesh_laws.specs.Sides.{NoFaceHasThree, OnceLieOnBothSides}
+use Rattle.mesh_laws.proofs.Listings.{exact}
 use Rattle.mesh_laws.proofs.Lists.{count-cons, count-none}
-use Rattle.mesh_laws.proofs.MovedOff.{NoneIsFlat, corners_of, cover_stays_at_most}
+use Rattle.mesh_laws.proofs.MovedOff.{NoneIsFlatBy, corners_of, cover_stays_at_most}
 use Rattle.mesh_laws.proofs.OneSide.{one_side}
 use Rattle.mesh_laws.proofs.Weights.{by_four}
-
--- ---- lists of places that tie are equal
-abbrev pub same : List Coordinates → List Coordinates → Bool
-same = eq_by_cmp (slice_cmp place_cmp)
-
-pub same_is : (f g : List Coordinates) → same f g ≡ true → f ≡ g
-same_is f g t = slice_cmp-IsAntisymmetric place_cmp-IsAntisymmetric f g ((Equal-is (slice_cmp place_cmp f g)).0 t)
-
-pub same_itself : (f : List Coordinates) → same f f ≡ true
-same_itself f = ap is_eq (tied_itself (lists_total place_cmp_total) f)
-
--- what holds of each item holds of one that is there
-pub has_one : (P : List Coordinates → Type 0) (face : List Coordinates) (fs : List (List Coordinates)) → AllByRecursion P fs → has (slice_cmp place_cmp) face fs ≡ true → P face
-has_one P face [] all h = absurd (false≢true h)
-has_one P face (f ∷ fs) all h =
-    elim (same face f) as (λ b. same face f ≡ b → (b || has (slice_cmp place_cmp) face fs) ≡ true → P face) [
-      | true ↦ λ e _. subst P (sym (same_is face f e)) all.0
-      | false ↦ λ _ k. has_one P face fs all.1 k
-    ] refl h
 
 -- ---- each two items
 -- R of each item and each later one
@@ -58,11 +37,11 @@ module _ {X : Type 0} (R : X → X → Type 0) where
   pub pairs_from : (xs : List X) → AllPairs R xs → Pairs R xs
   pairs_from [] h = tt
   pairs_from (x ∷ xs) h =
-      (all_from_index (R x) xs (λ j d below. h 0 (suc j) d (omega arith) (omega arith)), pairs_from xs (λ i j d before below. h (suc i) (suc j) d (omega arith) (omega arith)))
+      (recursion_from_All (R x) xs (λ j d below. h 0 (suc j) d (omega arith) (omega arith)), pairs_from xs (λ i j d before below. h (suc i) (suc j) d (omega arith) (omega arith)))
 
   pub pairs_to : (xs : List X) → Pairs R xs → AllPairs R xs
   pairs_to [] h i j d before below = absurd (omega arith)
-  pairs_to (x ∷ xs) h i j d before below = AllPairs-cons R x xs (all_by_index (R x) xs h.0) (pairs_to xs h.1) i j d before below
+  pairs_to (x ∷ xs) h i j d before below = AllPairs-cons R x xs (All-from_recursion (R x) xs h.0) (pairs_to xs h.1) i j d before below
 
 -- where no three items that pass a test are related, at most two of related items pass
 module _ {X : Type 0} (P : X → Type 0) (R : X → X → Type 0) (test : X → Bool)
@@ -110,7 +89,7 @@ module _ {X : Type 0} (corners : X → List Coordinates) where
   abbrev pub BothSides : X → X → Type 0
   BothSides x y = LieOnBothSides (corners x) (corners y)
 
-  pub once_pairs : (xs : List X) → NoneIsFlat corners xs → ((p : Rational) → count_by (λ x. is_inside p (corners x)) xs ≤ 1) → Pairs BothSides xs
+  pub once_pairs : (xs : List X) → NoneIsFlatBy corners xs → ((p : Rational) → count_by (λ x. is_inside p (corners x)) xs ≤ 1) → Pairs BothSides xs
   once_pairs [] solid once = tt
   once_pairs (x ∷ xs) solid once = (each xs solid.1 once, once_pairs xs solid.1 (λ p. fewer (inside p x) _ _ (count-cons (inside p) x xs) (once p)))
     where
@@ -130,7 +109,7 @@ module _ {X : Type 0} (corners : X → List Coordinates) where
       without a true k n m l e f g h = omega arith
       without a false k n m l e f g h = omega arith
 
-      each : (ys : List X) → NoneIsFlat corners ys → ((p : Rational) → count_by (λ x. is_inside p (corners x)) (x ∷ ys) ≤ 1) → AllByRecursion (BothSides x) ys
+      each : (ys : List X) → NoneIsFlatBy corners ys → ((p : Rational) → count_by (λ x. is_inside p (corners x)) (x ∷ ys) ≤ 1) → AllByRecursion (BothSides x) ys
       each [] solid_ys once_ys = tt
       each (y ∷ ys) solid_ys once_ys = (
         lie_on_both_sides (corners x) (corners y) solid.0 solid_ys.0 (λ p first second. twice _ _ _ _ _ first second (count-cons (inside p) x (y ∷ ys)) (count-cons (inside p) y ys) (once_ys p)),
@@ -139,7 +118,7 @@ module _ {X : Type 0} (corners : X → List Coordinates) where
 
 pub once_lie_on_both_sides : OnceLieOnBothSides
 once_lie_on_both_sides tets solid once =
-    pairs_to (BothSides corners_of) tets (once_pairs corners_of tets solid (cover_stays_at_most 1 tets [] solid tt (λ p off _. once p off)))
+    pairs_to (BothSides corners_of) tets (once_pairs corners_of tets solid (cover_stays_at_most 1 (λ _ _. true) tets [] solid tt (λ p off _. once p off)))
 
 -- ---- no face has three
 -- that corners have a face, and another place
@@ -149,7 +128,7 @@ IsFaceOf _ corners = ⊥
 
 pub is_face : (corners : List Coordinates) → is_flat corners ≡ false → (face : List Coordinates) → has (slice_cmp place_cmp) face (faces_of corners) ≡ true → IsFaceOf face corners
 is_face = by_four (λ corners. (face : List Coordinates) → has (slice_cmp place_cmp) face (faces_of corners) ≡ true → IsFaceOf face corners) (λ a b c d solid face there.
-    has_one (λ f. IsFaceOf f (a ∷ b ∷ c ∷ d ∷ [])) face (faces_of (a ∷ b ∷ c ∷ d ∷ [])) (
+    all-at exact (λ f. IsFaceOf f (a ∷ b ∷ c ∷ d ∷ [])) face (faces_of (a ∷ b ∷ c ∷ d ∷ [])) (
       (d, IsPermutation-refl (a ∷ b ∷ c ∷ d ∷ [])),
       (
         (c, IsPermutation-cons a (b ∷ d ∷ c ∷ []) (b ∷ c ∷ d ∷ []) (IsPermutation-cons b (d ∷ c ∷ []) (c ∷ d ∷ []) (IsPermutation-append_comm (d ∷ []) (c ∷ [])))),

@@ -2,7 +2,7 @@
 use Rattle.std.proofs.Common.{◌≡◌, Bool, true, false, cond, List, [], ◌∷◌, ◌++◌, refl, sym, ap, ap₂, ◌∙◌}
 use Rattle.std.specs.List.{AllByRecursion}
 use Rattle.std.proofs.lemmas.Bool.{false≢true}
-use Rattle.mesh_laws.proofs.Lists.{all_split}
+use Rattle.mesh_laws.proofs.Lists.{all_items, all_split}
 
 abbrev pub total : {X A : Type 0} → A → (A → A → A) → (X → A) → List X → A
 total none plus f [] = none
@@ -65,13 +65,9 @@ module _ {A : Type 0} (none : A) (plus : A → A → A) (left : (a : A) → plus
         other true false a h = refl
         other false t a h = refl
 
-        each : {P : X → Type 0} → ((x : X) → P x) → (xs : List X) → AllByRecursion P xs
-        each h [] = tt
-        each h (x ∷ xs) = (h x, each h xs)
-
         by : (b : Bool) → same k j ≡ b → sum (with_key j (without k f)) xs ≡ cond b none (sum (with_key j f) xs)
-        by true e = total-none (with_key j (without k f)) xs (each (λ x. one (same j (key x)) (same k (key x)) (f x) (λ h. sym (ap (same k) (same_is j (key x) h)) ∙ e)) xs)
-        by false e = total-each (with_key j (without k f)) (with_key j f) xs (each (λ x. other (same j (key x)) (same k (key x)) (f x) (λ h. sym (ap (same k) (same_is j (key x) h)) ∙ e)) xs)
+        by true e = total-none (with_key j (without k f)) xs (all_items (λ x. with_key j (without k f) x ≡ none) (λ x. one (same j (key x)) (same k (key x)) (f x) (λ h. sym (ap (same k) (same_is j (key x) h)) ∙ e)) xs)
+        by false e = total-each (with_key j (without k f)) (with_key j f) xs (all_items (λ x. with_key j (without k f) x ≡ with_key j f x) (λ x. other (same j (key x)) (same k (key x)) (f x) (λ h. sym (ap (same k) (same_is j (key x) h)) ∙ e)) xs)
 
     -- all keys of a list left out
     abbrev dropped : List X → (X → A) → X → A
@@ -109,3 +105,7 @@ module _ {A : Type 0} (none : A) (plus : A → A → A) (left : (a : A) → plus
       total-alike f h =
           let gone = all_split (λ x. dropped (xs ++ ys) f x ≡ none) xs ys (all_none (xs ++ ys) f) in
           all_dropped (xs ++ ys) f h (total-none (dropped (xs ++ ys) f) xs gone.0 ∙ sym (total-none (dropped (xs ++ ys) f) ys gone.1))
+
+      -- in particular where they are for any key
+      pub total-by_key : (f : X → A) → ((k : K) → sum (at none key same k f) xs ≡ sum (at none key same k f) ys) → sum f xs ≡ sum f ys
+      total-by_key f h = total-alike f (all_items (λ z. sum (at none key same (key z) f) xs ≡ sum (at none key same (key z) f) ys) (λ z. h (key z)) (xs ++ ys))

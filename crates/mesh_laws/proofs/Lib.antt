@@ -8,4 +8,8 @@ pub mod Keyed
 pub mod Oddly
 pub mod Regions
 pub mod Sounds
+pub mod FiveSigns
+pub mod FivePlaces
+pub mod Listings
+pub mod Examples
 pub mod Adapted

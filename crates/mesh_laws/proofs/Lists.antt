@@ -1,6 +1,5 @@
 -- Items of lists, and how many pass a test.
 use Rattle.std.proofs.Common.{◌≡◌, ℕ, ◌+◌, ◌≤◌, Bool, true, false, cond, List, [], ◌∷◌, ◌++◌, refl, sym, ap₂, ◌∙◌, arith}
-use Rattle.std.specs.Prelude.{map}
 use Rattle.std.specs.List.{AllByRecursion, count_by, flat_map}
 use Rattle.std.proofs.lemmas.Bool.{false≢true}
 use Rattle.std.proofs.lemmas.List.Sums.{sum_by-cons}
@@ -44,7 +43,3 @@ count-more f g (x ∷ xs) h =
     by true false h m n k l e f g = absurd (false≢true (h refl))
     by false true h m n k l e f g = omega arith
     by false false h m n k l e f g = omega arith
-
-pub count-map : {X Y : Type 0} (f : Y → Bool) (h : X → Y) (xs : List X) → count_by f (map h xs) ≡ count_by (λ x. f (h x)) xs
-count-map f h [] = refl
-count-map f h (x ∷ xs) = count-cons f (h x) (map h xs) ∙ ap₂ (λ (b : Bool) (n : ℕ). cond b 1 0 + n) refl (count-map f h xs) ∙ sym (count-cons (λ y. f (h y)) x xs)

@@ -13,7 +13,7 @@ use Rattle.ma_geom.proofs.Reified.{Quadruple, place, point, point_and_places, si
 use Rattle.ma_geom.proofs.Ring.{◌⊕◌, ◌⊗◌, ring}
 use Rattle.ma_cells.proofs.Passing.{all_weaker}
 use Rattle.ma_cover.specs.Inside.{are_alike}
-use Rattle.mesh_laws.specs.Points.{IsMovedOff, IsMovedOffPlane, PointsMoveOffPlanes}
+use Rattle.mesh_laws.specs.Points.{IsMovedOffPlane, PointsMoveOffPlanes}
 use Rattle.mesh_laws.proofs.Weights.{alike_some, is_or_not}
 
 -- ---- a bound of what items have
@@ -112,7 +112,7 @@ none_times (pos (suc w)) (negsuc n) h e = absurd (omega (arith, ints))
 
 -- ---- one triangle
 near : (p : Rational) → IsPoint p → (k m : ℕ) (a b c : Coordinates) → size (normal a b c) < m → unsigned_abs (p.w *ℤ along (pos m) (normal a b c)) < k
-    → IsMovedOff p (moved_by (pos k) (pos m) p) a b c
+    → IsMovedOffPlane p (moved_by (pos k) (pos m) p) (a ∷ b ∷ c ∷ [])
 near p is_point k m a b c small far = record {
   kept = λ there. subst (λ t. are_alike (side a b c p) t ≡ true) (sym is) (alike_multiple k (side a b c p) e far there);
   off = λ bent none.
@@ -154,7 +154,7 @@ points_move_off_planes p is_point triangles =
       where
         one : (t : List Coordinates) → size_of t < m → way_of p m t < k → IsMovedOffPlane p (moved_by (pos (suc k)) (pos m) p) t
         one (a ∷ b ∷ c ∷ []) g h = near p is_point (suc k) m a b c g (omega arith)
-        one [] g h = tt
-        one (a ∷ []) g h = tt
-        one (a ∷ b ∷ []) g h = tt
-        one (a ∷ b ∷ c ∷ d ∷ l) g h = tt
+        one [] g h = record { off = tt; kept = tt }
+        one (a ∷ []) g h = record { off = tt; kept = tt }
+        one (a ∷ b ∷ []) g h = record { off = tt; kept = tt }
+        one (a ∷ b ∷ c ∷ d ∷ l) g h = record { off = tt; kept = tt }

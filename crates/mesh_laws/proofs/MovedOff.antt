@@ -1,5 +1,5 @@
 -- A point that is moved off the closed faces of tetrahedra stays within each or without, and so the cover stays at most.
-use Rattle.std.proofs.Common.{◌≡◌, ◌≢◌, ◌⊎◌, inl, inr, ⊎_elim, ℕ, ◌≤◌, Bool, true, false, ◌&&◌, List, ◌++◌, sym, ap, ◌∙◌, arith}
+use Rattle.std.proofs.Common.{◌≡◌, ◌≢◌, ◌⊎◌, inl, inr, ⊎_elim, ℕ, ◌≤◌, Bool, true, false, ◌&&◌, List, [], ◌++◌, sym, ap, ◌∙◌, arith}
 use Rattle.std.specs.Prelude.{ℤ, pos, ◌+ℤ◌, ◌*ℤ◌, ◌<ℤ◌}
 use Rattle.std.specs.List.{AllByRecursion, count_by, flat_map}
 use Rattle.std.specs.Ordering.{int_eq}
@@ -68,8 +68,8 @@ point_or_not p = by (either p.w)
 
 -- ---- a list of what has corners
 module _ {X : Type 0} (corners : X → List Coordinates) where
-  abbrev pub NoneIsFlat : List X → Type 0
-  NoneIsFlat xs = AllByRecursion (λ x. is_flat (corners x) ≡ false) xs
+  abbrev pub NoneIsFlatBy : List X → Type 0
+  NoneIsFlatBy xs = AllByRecursion (λ x. is_flat (corners x) ≡ false) xs
 
   abbrev pub AreOff : Rational → List X → Type 0
   AreOff p xs = AllByRecursion (λ x. IsOffFacesOf p (corners x)) xs
@@ -77,13 +77,16 @@ module _ {X : Type 0} (corners : X → List Coordinates) where
   abbrev pub AreMovedOff : Rational → Rational → List X → Type 0
   AreMovedOff p q xs = AllByRecursion (λ x. IsMovedOffFaces p q (corners x)) xs
 
-  pub move_off : (p : Rational) → IsPoint p → (xs : List X) → NoneIsFlat xs → (q : Rational) × IsPoint q × AreMovedOff p q xs
-  move_off p is_point xs solid =
-      let near = points_move_off_planes p is_point (flat_map (λ x. faces_of (corners x)) xs) in (
+  pub move_off : (p : Rational) → IsPoint p → (xs : List X) (triangles : List (List Coordinates)) → NoneIsFlatBy xs → (q : Rational) × IsPoint q × AreMovedOff p q xs × AllByRecursion (IsMovedOffPlane p q) triangles
+  move_off p is_point xs triangles solid =
+      let faces = flat_map (λ x. faces_of (corners x)) xs in
+      let near = points_move_off_planes p is_point (faces ++ triangles) in
+      let parts = all_split (IsMovedOffPlane p near.0) faces triangles near.2 in (
         near.0,
         near.1,
         all_two (λ x. is_flat (corners x) ≡ false) (λ x. AllByRecursion (IsMovedOffPlane p near.0) (faces_of (corners x))) (λ x. IsMovedOffFaces p near.0 (corners x)) (λ x. moved_off p near.0 (corners x)) xs solid
-            (all_parts (IsMovedOffPlane p near.0) (λ x. faces_of (corners x)) xs near.2),
+            (all_parts (IsMovedOffPlane p near.0) (λ x. faces_of (corners x)) xs parts.0),
+        parts.1,
       )
 
   -- it is off the faces
@@ -117,10 +120,10 @@ module _ {X : Type 0} (corners : X → List Coordinates) where
         (all_items (λ x. (g x && is_inside p (corners x)) ≡ false) (λ x. and_right (g x) (is_inside p (corners x)) (false_from_ne_true (is_inside p (corners x)) (λ h. no_point (inside_is_point p (corners x) h)))) xs)
 
     -- where at most n have each point within them that is off closed faces, at most n have any
-    pub covered_at_most : (n : ℕ) (xs ys : List X) → NoneIsFlat xs → NoneIsFlat ys → ((q : Rational) → AreOff q xs → AreOff q ys → covered q xs ≤ n) → (p : Rational) → covered p xs ≤ n
+    pub covered_at_most : (n : ℕ) (xs ys : List X) → NoneIsFlatBy xs → NoneIsFlatBy ys → ((q : Rational) → AreOff q xs → AreOff q ys → covered q xs ≤ n) → (p : Rational) → covered p xs ≤ n
     covered_at_most n xs ys solid solid_ys most p =
         ⊎_elim (λ is_point.
-        let near = move_off p is_point (xs ++ ys) (all-append (λ x. is_flat (corners x) ≡ false) xs ys solid solid_ys) in
+        let near = move_off p is_point (xs ++ ys) [] (all-append (λ x. is_flat (corners x) ≡ false) xs ys solid solid_ys) in
         let moved = all_split (λ x. IsMovedOffFaces p near.0 (corners x)) xs ys near.2 in
         by _ _ (covered_more p near.0 xs moved.0) (most near.0 (off_after p near.0 xs moved.0) (off_after p near.0 ys moved.1)))
         (λ no_point. none _ (covered_nowhere p no_point xs)) (point_or_not p)
@@ -132,13 +135,13 @@ module _ {X : Type 0} (corners : X → List Coordinates) where
         none k e = omega arith
 
     -- what is the same from the first list to the second and from there to the third, is the same from the first to the third
-    pub covered_on : (xs ys zs : List X) → NoneIsFlat xs → NoneIsFlat ys → NoneIsFlat zs
+    pub covered_on : (xs ys zs : List X) → NoneIsFlatBy xs → NoneIsFlatBy ys → NoneIsFlatBy zs
         → ((q : Rational) → AreOff q xs → AreOff q ys → covered q ys ≡ covered q xs) → ((q : Rational) → AreOff q ys → AreOff q zs → covered q zs ≡ covered q ys)
         → (p : Rational) → AreOff p xs → AreOff p zs → covered p zs ≡ covered p xs
     covered_on xs ys zs solid_xs solid_ys solid_zs first second p off_xs off_zs =
         ⊎_elim (λ is_point.
         let Solid : X → Type 0 = λ x. is_flat (corners x) ≡ false in
-        let near = move_off p is_point (xs ++ (ys ++ zs)) (all-append Solid xs (ys ++ zs) solid_xs (all-append Solid ys zs solid_ys solid_zs)) in
+        let near = move_off p is_point (xs ++ (ys ++ zs)) [] (all-append Solid xs (ys ++ zs) solid_xs (all-append Solid ys zs solid_ys solid_zs)) in
         let q = near.0 in
         let Moved : X → Type 0 = λ x. IsMovedOffFaces p q (corners x) in
         let parts = all_split Moved xs (ys ++ zs) near.2 in
@@ -157,7 +160,7 @@ pub points_move_off_faces : PointsMoveOffFaces
 points_move_off_faces = move_off corners_of
 
 pub cover_stays_at_most : CoverStaysAtMost
-cover_stays_at_most n tets others = covered_at_most corners_of (λ tet. true) n tets others
+cover_stays_at_most n regions tets others = covered_at_most corners_of (λ tet. regions tet.phys tet.elem) n tets others
 
 pub same_cover_is_handed_on : SameCoverIsHandedOn
 same_cover_is_handed_on tets between others solid solid_between solid_others first second phys elem =

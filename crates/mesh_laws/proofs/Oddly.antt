@@ -3,10 +3,10 @@ use Rattle.std.proofs.Common.{◌≡◌, ◌⊎◌, inl, inr, ℕ, zero, suc, �
 use Rattle.std.specs.Prelude.{not}
 use Rattle.std.specs.List.{AllByRecursion, count_by, flat_map}
 use Rattle.std.proofs.lemmas.Bool.{and_parts, false≢true}
-use Rattle.mesh_laws.specs.Parity.{OddFacesDecideParity, is_odd}
-use Rattle.mesh_laws.proofs.BothSides.{same, same_is, same_itself}
-use Rattle.mesh_laws.proofs.Keyed.{at, total, total-alike, total-append, total-each, total-none}
-use Rattle.mesh_laws.proofs.Lists.{all_items, count-cons}
+use Rattle.mesh_laws.specs.Parity.{SameOddlyPassOddly, is_odd}
+use Rattle.mesh_laws.proofs.Listings.{same, same_is, same_itself}
+use Rattle.mesh_laws.proofs.Keyed.{at, total, total-alike, total-append, total-by_key, total-each, total-none}
+use Rattle.mesh_laws.proofs.Lists.{count-cons}
 
 -- ---- one or the other
 abbrev pub xor : Bool → Bool → Bool
@@ -117,30 +117,18 @@ module _ {X K : Type 0} (key : X → K) (same : K → K → Bool) (same_is : (k 
       by false s t = refl
 
   module _ (f : K → Bool) where
-    alike_by : (xs ys zs : List X) → AllByRecursion (λ z. (f (key z) && odd_key (key z) xs) ≡ (f (key z) && odd_key (key z) ys)) zs
-        → AllByRecursion (λ z. odd_of (at false key same (key z) (λ x. f (key x))) xs
-        ≡ odd_of (at false key same (key z) (λ x. f (key x))) ys) zs
-    alike_by xs ys [] h = tt
-    alike_by xs ys (z ∷ zs) h = (of_key f (key z) xs ∙ h.0 ∙ sym (of_key f (key z) ys), alike_by xs ys zs h.1)
-
     -- lists with each key an odd number of times alike have an odd number that pass alike
     pub odd-alike : (xs ys : List X) → ((k : K) → odd_key k xs ≡ odd_key k ys) → odd_of (λ x. f (key x)) xs ≡ odd_of (λ x. f (key x)) ys
     odd-alike xs ys alike =
-        total-alike false xor (λ a. refl) xor_none xor_regroup key same same_is same_itself xs ys (λ x. f (key x))
-        (alike_by xs ys (xs ++ ys) (all_items (λ z. (f (key z) && odd_key (key z) xs) ≡ (f (key z) && odd_key (key z) ys)) (λ z. ap (λ b. f (key z) && b) (alike (key z))) (xs ++ ys)))
+        total-by_key false xor (λ a. refl) xor_none xor_regroup key same same_is same_itself xs ys (λ x. f (key x)) (λ k. of_key f k xs ∙ ap (λ b. f k && b) (alike k) ∙ sym (of_key f k ys))
 
     -- where no key that passes is had an odd number of times, an even number pass
     pub cancelled : (xs : List X) → AllByRecursion (λ x. (f (key x) && odd_key (key x) xs) ≡ false) xs → odd_of (λ x. f (key x)) xs ≡ false
-    cancelled xs h =
-        total-alike false xor (λ a. refl) xor_none xor_regroup key same same_is same_itself xs [] (λ x. f (key x)) (alike_by xs [] (xs ++ []) (shorter xs h))
+    cancelled xs h = total-alike false xor (λ a. refl) xor_none xor_regroup key same same_is same_itself xs [] (λ x. f (key x)) (none_left xs h)
       where
-        nothing : (u b : Bool) → b ≡ false → b ≡ (u && false)
-        nothing true b e = e
-        nothing false b e = e
-
-        shorter : (zs : List X) → AllByRecursion (λ x. (f (key x) && odd_key (key x) xs) ≡ false) zs → AllByRecursion (λ z. (f (key z) && odd_key (key z) xs) ≡ (f (key z) && false)) (zs ++ [])
-        shorter [] h = tt
-        shorter (z ∷ zs) h = (nothing (f (key z)) (f (key z) && odd_key (key z) xs) h.0, shorter zs h.1)
+        none_left : (zs : List X) → AllByRecursion (λ x. (f (key x) && odd_key (key x) xs) ≡ false) zs → AllByRecursion (λ z. odd_of (at false key same (key z) (λ x. f (key x))) xs ≡ false) (zs ++ [])
+        none_left [] h = tt
+        none_left (z ∷ zs) h = (of_key f (key z) xs ∙ h.0, none_left zs h.1)
 
     -- an item whose key passes and is had an odd number of times
     pub record IsOddOne (P : X → Type 0) (xs : List X) : Type 0 where
@@ -168,6 +156,6 @@ module _ {X K : Type 0} (key : X → K) (same : K → K → Bool) (same_is : (k 
         by (inr none) = absurd (false≢true (sym (cancelled xs none) ∙ h))
 
 -- ---- faces
-pub odd_faces_decide_parity : OddFacesDecideParity
-odd_faces_decide_parity faces others alike test =
+pub same_oddly_pass_oddly : SameOddlyPassOddly
+same_oddly_pass_oddly faces others alike test =
     odd_is test faces ∙ odd-alike (λ face. face) same same_is same_itself test faces others (λ face. sym (odd_is (same face) faces) ∙ alike face ∙ odd_is (same face) others) ∙ sym (odd_is test others)

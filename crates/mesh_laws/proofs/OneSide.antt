@@ -1,7 +1,8 @@
 -- Two tetrahedra that share a face and lie on one side of it have a point in common.
-use Rattle.std.proofs.Common.{◌≡◌, ◌≢◌, ℕ, zero, suc, ◌<◌, ◌⊎◌, ⊎_elim, Bool, true, false, ◌&&◌, List, [], ◌∷◌, ◌++◌, refl, sym, ap, subst, ◌∙◌, arith}
+use Rattle.std.proofs.Common.{◌≡◌, ◌≢◌, ℕ, zero, suc, ◌<◌, ◌⊎◌, ⊎_elim, Bool, true, false, ◌&&◌, List, [], ◌∷◌, refl, sym, ap, subst, ◌∙◌, arith}
 use Rattle.std.specs.Prelude.{ℤ, pos, negsuc, ◌+ℤ◌, ◌*ℤ◌, ◌<ℤ◌, ◌≤ℤ◌, unsigned_abs}
 use Rattle.std.specs.Ordering.{int_eq}
+use Rattle.std.proofs.Math.IntN.{*ℤ_comm}
 use Rattle.std.proofs.lemmas.Int.{ints}
 use Rattle.ma_geom.specs.Coordinates.{Coordinates}
 use Rattle.ma_geom.specs.Lines.{normal}
@@ -10,15 +11,13 @@ use Rattle.ma_geom.specs.Volume.{dot, minus, vol6}
 use Rattle.ma_geom.proofs.Identities.{dot_self, dot_squared}
 use Rattle.ma_geom.proofs.Reified.{Triple, Quadruple, place, places, side', cross', minus', dot', vol6'}
 use Rattle.ma_geom.proofs.Ring.{con, ◌⊕◌, ◌⊗◌, ring}
-use Rattle.ma_cells.specs.Faces.{faces_of}
 use Rattle.ma_cells.proofs.Passing.{all_weaker}
 use Rattle.ma_cover.specs.Inside.{are_alike, is_inside}
 use Rattle.ma_cover.proofs.OffFaces.{inside_is_off_faces}
-use Rattle.mesh_laws.specs.Points.{IsMovedOffPlane}
-use Rattle.mesh_laws.specs.Sides.{IsOffPlane, OneSideHasCommonPoint, TetrahedronHasPoint}
-use Rattle.mesh_laws.proofs.Lists.{all_split}
-use Rattle.mesh_laws.proofs.Moved.{alike_multiple, bound, points_move_off_planes}
-use Rattle.mesh_laws.proofs.MovedOff.{moved_off}
+use Rattle.mesh_laws.specs.Points.{IsMovedOffPlane, IsOffPlane}
+use Rattle.mesh_laws.specs.Sides.{OneSideHasCommonPoint, TetrahedronHasPoint}
+use Rattle.mesh_laws.proofs.Moved.{alike_multiple, bound}
+use Rattle.mesh_laws.proofs.MovedOff.{move_off}
 use Rattle.mesh_laws.proofs.Weights.{alike_itself, alike_some, by_four, inside_is_point, some_a, some_b, some_c}
 
 -- ---- a point close to the middle of the triangle u v w, off its plane if s isn't zero
@@ -102,48 +101,37 @@ long_normal u v w d solid =
     positive_or_none : (x : ℤ) → pos 0 ≤ℤ x → (x ≡ pos 0) ⊎ (pos 0 <ℤ x)
     positive_or_none x h = grind (arith, ints)
 
--- ---- 1 or -1, as a number is
-abbrev unit : ℤ → ℤ
-unit (negsuc n) = negsuc 0
-unit (pos n) = pos 1
+-- ---- numbers of one sign
+alike_times : (s m : ℤ) → s ≢ pos 0 → pos 0 <ℤ m → are_alike s (s *ℤ m) ≡ true
+alike_times s (pos zero) some h = absurd (omega (arith, ints))
+alike_times s (negsuc k) some h = absurd (omega (arith, ints))
+alike_times s (pos (suc k)) some h = subst (λ t. are_alike s t ≡ true) (by (pos (suc k) *ℤ s) ∙ *ℤ_comm (pos (suc k)) s) (alike_multiple (suc k) s (pos 0) (omega (arith, ints)) some)
+  where
+    by : (t : ℤ) → t +ℤ pos 0 ≡ t
+    by t = omega (arith, ints)
 
-unit_alike : (x y : ℤ) → are_alike x y ≡ true → unit y ≡ unit x
-unit_alike (pos n) (pos m) h = refl
-unit_alike (negsuc n) (negsuc m) h = refl
-unit_alike (pos n) (negsuc m) h = absurd (no n m h)
-  where
-    no : (n m : ℕ) → are_alike (pos n) (negsuc m) ≡ true → ⊥
-    no n m h = grind (arith, ints)
-unit_alike (negsuc n) (pos m) h = absurd (no n m h)
-  where
-    no : (n m : ℕ) → are_alike (negsuc n) (pos m) ≡ true → ⊥
-    no n m h = grind (arith, ints)
+alike_alike : (x y z : ℤ) → are_alike x y ≡ true → are_alike y z ≡ true → are_alike x z ≡ true
+alike_alike x y z h k = grind (arith, ints)
 
-alike_units : (x m : ℤ) → x ≢ pos 0 → pos 0 <ℤ m → are_alike x (unit x *ℤ m) ≡ true
-alike_units (pos zero) m h g = absurd (h refl)
-alike_units (pos (suc n)) m h g = by m g
-  where
-    by : (m : ℤ) → pos 0 <ℤ m → are_alike (pos (suc n)) (pos 1 *ℤ m) ≡ true
-    by m g = grind (arith, ints)
-alike_units (negsuc n) m h g = by m g
-  where
-    by : (m : ℤ) → pos 0 <ℤ m → are_alike (negsuc n) (negsuc 0 *ℤ m) ≡ true
-    by m g = grind (arith, ints)
+alike_turned : (x y : ℤ) → are_alike x y ≡ true → are_alike y x ≡ true
+alike_turned x y h = grind (arith, ints)
 
 -- ---- the common point
-within : (k : ℕ) (u v w d : Coordinates) (s : ℤ) → vol6 u v w d ≢ pos 0 → s ≡ unit (vol6 u v w d)
+beyond_inside : (k : ℕ) (u v w d : Coordinates) (s : ℤ) → are_alike (vol6 u v w d) s ≡ true
     → unsigned_abs (gap s u v w v w d) < k → unsigned_abs (gap s u v w u w d) < k → unsigned_abs (gap s u v w u v d) < k
     → is_inside (beyond (pos k) s u v w) (u ∷ v ∷ w ∷ d ∷ []) ≡ true
-within k u v w d s solid is small_u small_v small_w =
+beyond_inside k u v w d s alike small_u small_v small_w =
     all (are_alike (vol6 v w d u) (side v w d p)) (are_alike (vol6 u w d v) (side u w d p)) (are_alike (vol6 u v d w) (side u v d p)) (are_alike (vol6 u v w d) (side u v w p))
     (kept (vol6 v w d u) (gap s u v w v w d) (side v w d p) (some_a u v w d solid) small_u (at_u (pos k) s u v w d))
     (kept (vol6 u w d v) (gap s u v w u w d) (side u w d p) (some_b u v w d solid) small_v (at_v (pos k) s u v w d))
     (kept (vol6 u v d w) (gap s u v w u v d) (side u v d p) (some_c u v w d solid) small_w (at_w (pos k) s u v w d))
-    (ap (are_alike (vol6 u v w d)) (at_face (pos k) s u v w d ∙ ap (λ t. t *ℤ dot (normal u v w) (normal u v w)) is)
-    ∙ alike_units (vol6 u v w d) (dot (normal u v w) (normal u v w)) solid (long_normal u v w d solid))
+    (ap (are_alike (vol6 u v w d)) (at_face (pos k) s u v w d) ∙ alike_alike (vol6 u v w d) s (s *ℤ dot (normal u v w) (normal u v w)) alike (alike_times s (dot (normal u v w) (normal u v w)) (alike_some (vol6 u v w d) s alike).1 (long_normal u v w d solid)))
   where
     p : Rational
     p = beyond (pos k) s u v w
+
+    solid : vol6 u v w d ≢ pos 0
+    solid = (alike_some (vol6 u v w d) s alike).0
 
     kept : (x e t : ℤ) → x ≢ pos 0 → unsigned_abs e < k → t ≡ (pos k *ℤ x) +ℤ e → are_alike x t ≡ true
     kept x e t some small is = subst (λ r. are_alike x r ≡ true) (sym is) (alike_multiple k x e small some)
@@ -158,13 +146,12 @@ pub record HaveCommonPoint (s t : List Coordinates) : Type 0 where
 
 pub one_side : (u v w d e : Coordinates) → are_alike (vol6 u v w d) (vol6 u v w e) ≡ true → HaveCommonPoint (u ∷ v ∷ w ∷ d ∷ []) (u ∷ v ∷ w ∷ e ∷ [])
 one_side u v w d e alike =
-    let s = unit (vol6 u v w d) in
-    let some = alike_some (vol6 u v w d) (vol6 u v w e) alike in
+    let s = vol6 u v w d in
     let k = bound unsigned_abs (gap s u v w v w d ∷ gap s u v w u w d ∷ gap s u v w u v d ∷ gap s u v w v w e ∷ gap s u v w u w e ∷ gap s u v w u v e ∷ []) in
     record {
       p = beyond (pos k.0) s u v w;
-      first = within k.0 u v w d s some.0 refl k.1.0 k.1.1.0 k.1.1.1.0;
-      second = within k.0 u v w e s some.1 (sym (unit_alike (vol6 u v w d) (vol6 u v w e) alike)) k.1.1.1.1.0 k.1.1.1.1.1.0 k.1.1.1.1.1.1.0;
+      first = beyond_inside k.0 u v w d s (alike_itself s (alike_some s (vol6 u v w e) alike).0) k.1.0 k.1.1.0 k.1.1.1.0;
+      second = beyond_inside k.0 u v w e s (alike_turned s (vol6 u v w e) alike) k.1.1.1.1.0 k.1.1.1.1.1.0 k.1.1.1.1.1.1.0;
     }
 
 -- it can be moved off any planes
@@ -174,28 +161,18 @@ one_side_has_common_point u v w d e triangles alike =
     let t = u ∷ v ∷ w ∷ e ∷ [] in
     let common = one_side u v w d e alike in
     let p = common.p in
-    let near = points_move_off_planes p (inside_is_point p s common.first) (faces_of s ++ (faces_of t ++ triangles)) in
-    let q = near.0 in
-    let parts = all_split (IsMovedOffPlane p q) (faces_of s) (faces_of t ++ triangles) near.2 in
-    let rest = all_split (IsMovedOffPlane p q) (faces_of t) triangles parts.1 in
-    let some = alike_some (vol6 u v w d) (vol6 u v w e) alike in (
-      q,
+    let some = alike_some (vol6 u v w d) (vol6 u v w e) alike in
+    let near = move_off (λ c. c) p (inside_is_point p s common.first) (s ∷ t ∷ []) triangles (not_flat (vol6 u v w d) some.0, (not_flat (vol6 u v w e) some.1, tt)) in (
+      near.0,
       record {
-        first = (moved_off p q s (not_flat (vol6 u v w d) some.0) parts.0).inside (inside_is_off_faces p s common.first) ∙ common.first;
-        second = (moved_off p q t (not_flat (vol6 u v w e) some.1) rest.0).inside (inside_is_off_faces p t common.second) ∙ common.second;
-        off = all_weaker (IsMovedOffPlane p q) (IsOffPlane q) (off p q) triangles rest.1;
+        first = near.2.0.inside (inside_is_off_faces p s common.first) ∙ common.first;
+        second = near.2.1.0.inside (inside_is_off_faces p t common.second) ∙ common.second;
+        off = all_weaker (IsMovedOffPlane p near.0) (IsOffPlane near.0) (λ _ moved. moved.off) triangles near.3;
       },
     )
   where
     not_flat : (x : ℤ) → x ≢ pos 0 → int_eq x (pos 0) ≡ false
     not_flat x h = grind (arith, ints)
-
-    off : (p q : Rational) (triangle : List Coordinates) → IsMovedOffPlane p q triangle → IsOffPlane q triangle
-    off p q (a ∷ b ∷ c ∷ []) moved = moved.off
-    off p q [] moved = tt
-    off p q (a ∷ []) moved = tt
-    off p q (a ∷ b ∷ []) moved = tt
-    off p q (a ∷ b ∷ c ∷ d ∷ l) moved = tt
 
 pub tetrahedron_has_point : TetrahedronHasPoint
 tetrahedron_has_point = by_four (λ corners. (p : Rational) × (is_inside p corners ≡ true)) (λ a b c d solid.

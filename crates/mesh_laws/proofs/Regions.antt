@@ -1,16 +1,16 @@
--- Where each region covers a point equally often, so do all together, and so the cover stays at most.
-use Rattle.std.proofs.Common.{◌≡◌, ℕ, ◌+◌, ◌≤◌, Bool, true, false, cond, ◌&&◌, List, [], ◌∷◌, ◌++◌, refl, sym, ap, ap₂, ◌∙◌, arith}
+-- Where each region covers a point equally often, so do whichever regions together, and so the cover stays at most.
+use Rattle.std.proofs.Common.{◌≡◌, ℕ, ◌+◌, ◌≤◌, Bool, true, false, cond, ◌&&◌, List, [], ◌∷◌, refl, sym, ap, ap₂, ◌∙◌, arith}
 use Rattle.std.specs.Prelude.{ℤ}
 use Rattle.std.specs.List.{count_by}
 use Rattle.std.specs.Ordering.{int_eq}
-use Rattle.std.proofs.lemmas.Bool.{and_parts}
+use Rattle.std.proofs.lemmas.Bool.{and_parts, false≢true}
 use Rattle.std.proofs.lemmas.Int.{ints}
 use Rattle.ma_geom.specs.Rational.{Rational}
 use Rattle.ma_cells.specs.Tetrahedron.{Tetrahedron}
 use Rattle.ma_cover.specs.Cover.{cover}
 use Rattle.ma_cover.specs.Inside.{is_inside}
-use Rattle.mesh_laws.specs.Covers.{RegionsGiveWholeCover, SameCoverStaysAtMost}
-use Rattle.mesh_laws.proofs.Keyed.{at, total, total-alike, total-each}
+use Rattle.mesh_laws.specs.Covers.{RegionsGiveCover, SameCoverStaysAtMost}
+use Rattle.mesh_laws.proofs.Keyed.{at, total, total-by_key, total-each, total-none}
 use Rattle.mesh_laws.proofs.Lists.{all_items, count-cons}
 use Rattle.mesh_laws.proofs.MovedOff.{cover_stays_at_most}
 
@@ -58,34 +58,50 @@ same_itself r = ap₂ (λ s t. s && t) (itself r.phys) (itself r.elem)
     itself : (x : ℤ) → int_eq x x ≡ true
     itself x = grind (arith, ints)
 
--- ---- the cover of a region, and of all
-module _ (p : Rational) where
+-- ---- the cover of a region, and of whichever regions
+module _ (regions : ℤ → ℤ → Bool) (p : Rational) where
   abbrev weight : Tetrahedron → ℕ
-  weight tet = cond (is_inside p tet.corners) 1 0
+  weight tet = cond (regions tet.phys tet.elem && is_inside p tet.corners) 1 0
 
-  of_region : (r : Region) (tets : List Tetrahedron) → sum (at 0 region_of same r weight) tets ≡ cover r.phys r.elem p tets
-  of_region r tets =
-      total-each 0 (λ (m n : ℕ). m + n) left right regroup (at 0 region_of same r weight) counted tets
-      (all_items (λ tet. at 0 region_of same r weight tet ≡ counted tet) (λ tet. by (same r (region_of tet)) (is_inside p tet.corners)) tets)
-      ∙ sym (count_is (λ tet. (int_eq tet.phys r.phys && int_eq tet.elem r.elem) && is_inside p tet.corners) tets)
+  abbrev counted : Region → Tetrahedron → ℕ
+  counted r tet = cond ((int_eq tet.phys r.phys && int_eq tet.elem r.elem) && is_inside p tet.corners) 1 0
+
+  of_region : (r : Region) (tets : List Tetrahedron) → sum (at 0 region_of same r weight) tets ≡ cond (regions r.phys r.elem) (cover r.phys r.elem p tets) 0
+  of_region r tets = by (regions r.phys r.elem) refl
     where
-      counted : Tetrahedron → ℕ
-      counted tet = cond ((int_eq tet.phys r.phys && int_eq tet.elem r.elem) && is_inside p tet.corners) 1 0
+      one : (s t u : Bool) → (s ≡ true → t ≡ true) → ◌≡◌ {A = ℕ} (cond s (cond (t && u) 1 0) 0) (cond (s && u) 1 0)
+      one true true u h = refl
+      one true false u h = absurd (false≢true (h refl))
+      one false t u h = refl
 
-      by : (s t : Bool) → ◌≡◌ {A = ℕ} (cond s (cond t 1 0) 0) (cond (s && t) 1 0)
-      by true t = refl
-      by false t = refl
+      none : (s t u : Bool) → (s ≡ true → t ≡ false) → ◌≡◌ {A = ℕ} (cond s (cond (t && u) 1 0) 0) 0
+      none true true u h = absurd (false≢true (sym (h refl)))
+      none true false u h = refl
+      none false t u h = refl
 
-pub regions_give_whole_cover : RegionsGiveWholeCover
-regions_give_whole_cover p tets others each =
-    count_is (λ tet. is_inside p tet.corners) others
-    ∙ total-alike 0 (λ (m n : ℕ). m + n) left right regroup region_of same same_is same_itself others tets (weight p)
-    (all_items (λ tet. sum (at 0 region_of same (region_of tet) (weight p)) others ≡ sum (at 0 region_of same (region_of tet) (weight p)) tets) (λ tet. of_region p (region_of tet) others ∙ each tet.phys tet.elem ∙ sym (of_region p (region_of tet) tets)) (others ++ tets))
-    ∙ sym (count_is (λ tet. is_inside p tet.corners) tets)
+      -- a tetrahedron of the region r passes if r does
+      as_region : (tet : Tetrahedron) → same r (region_of tet) ≡ true → regions tet.phys tet.elem ≡ regions r.phys r.elem
+      as_region tet h = ap (λ q. regions q.phys q.elem) (sym (same_is r (region_of tet) h))
+
+      by : (b : Bool) → regions r.phys r.elem ≡ b → sum (at 0 region_of same r weight) tets ≡ cond b (cover r.phys r.elem p tets) 0
+      by true e =
+          total-each 0 (λ (m n : ℕ). m + n) left right regroup (at 0 region_of same r weight) (counted r) tets
+          (all_items (λ tet. at 0 region_of same r weight tet ≡ counted r tet) (λ tet. one (same r (region_of tet)) (regions tet.phys tet.elem) (is_inside p tet.corners) (λ h. as_region tet h ∙ e)) tets)
+          ∙ sym (count_is (λ tet. (int_eq tet.phys r.phys && int_eq tet.elem r.elem) && is_inside p tet.corners) tets)
+      by false e =
+          total-none 0 (λ (m n : ℕ). m + n) left right regroup (at 0 region_of same r weight) tets
+          (all_items (λ tet. at 0 region_of same r weight tet ≡ 0) (λ tet. none (same r (region_of tet)) (regions tet.phys tet.elem) (is_inside p tet.corners) (λ h. as_region tet h ∙ e)) tets)
+
+pub regions_give_cover : RegionsGiveCover
+regions_give_cover regions p tets others each =
+    count_is (λ tet. regions tet.phys tet.elem && is_inside p tet.corners) others
+    ∙ total-by_key 0 (λ (m n : ℕ). m + n) left right regroup region_of same same_is same_itself others tets (weight regions p)
+    (λ r. of_region regions p r others ∙ ap (λ n. cond (regions r.phys r.elem) n 0) (each r.phys r.elem) ∙ sym (of_region regions p r tets))
+    ∙ sym (count_is (λ tet. regions tet.phys tet.elem && is_inside p tet.corners) tets)
 
 pub same_cover_stays_at_most : SameCoverStaysAtMost
-same_cover_stays_at_most n tets others solid others_solid same most =
-    cover_stays_at_most n others tets others_solid solid (λ p off_others off. by _ _ (regions_give_whole_cover p tets others (λ phys elem. same phys elem p off off_others)) (most p off))
+same_cover_stays_at_most n regions tets others solid others_solid same most =
+    cover_stays_at_most n regions others tets others_solid solid (λ p off_others off. by _ _ (regions_give_cover regions p tets others (λ phys elem. same phys elem p off off_others)) (most p off))
   where
     by : (k l : ℕ) → k ≡ l → l ≤ n → k ≤ n
     by k l e h = omega arith

@@ -21,6 +21,7 @@ use Rattle.ma_cells.specs.Meshes.{corner_sets}
 use Rattle.ma_cells.specs.Tetrahedron.{Tetrahedron, are_corners, are_tetrahedra, is_flat, tet_cmp}
 use Rattle.ma_cells.proofs.CellOrders.{mark_cmp-IsAntisymmetric}
 use Rattle.ma_cells.proofs.Corners.{corners_span}
+use Rattle.ma_cells.proofs.Members.{all-at}
 use Rattle.ma_cells.proofs.Passing.{all-map, all_pass, all_weaker, test_all}
 use Rattle.ma_cells.proofs.Permutations.{distinct-permutes, listed_once-permutes}
 use Rattle.ma_cells.proofs.SetItems.{all-ascending_of, from-ascending_of}
@@ -28,26 +29,27 @@ use Rattle.ma_cover.specs.Inside.{are_alike, is_inside}
 use Rattle.ma_cover.specs.Sound.{IsPairedOrMarked, LieOnBothSides, holders}
 use Rattle.ma_cover.proofs.SoundOrder.{sound_in_any_order}
 use Rattle.mesh_laws.specs.Parity.{is_odd}
-use Rattle.mesh_laws.specs.Points.{AreNotFlat}
+use Rattle.mesh_laws.specs.Points.{NoneIsFlat}
 use Rattle.mesh_laws.specs.Sides.{whole_holders}
-use Rattle.mesh_laws.specs.Sounds.{ConformingOddAreMarked, OddMarkedIsSound, SameCoverStaysSound, SoundAsSets, SoundCoversOnce, SoundFaceHasTwo, SoundIsListedOnce}
-use Rattle.mesh_laws.proofs.BothSides.{BothSides, Pairs, has_one, no_face_has_three, once_lie_on_both_sides, once_pairs, pairs_from}
+use Rattle.mesh_laws.specs.Sounds.{ConformingOddAreMarked, OddMarkedIsSound, SameCoverStaysSound, SoundAsSets, SoundCoversOnce, ConformingFaceHasTwo, ConformingIsListedOnce}
+use Rattle.mesh_laws.proofs.BothSides.{BothSides, Pairs, no_face_has_three, once_lie_on_both_sides, once_pairs, pairs_from}
+use Rattle.mesh_laws.proofs.Listings.{exact}
 use Rattle.mesh_laws.proofs.Lists.{all_items, count-more}
-use Rattle.mesh_laws.proofs.MovedOff.{NoneIsFlat, corners_of as corners_of_tet, cover_stays_at_most}
+use Rattle.mesh_laws.proofs.MovedOff.{NoneIsFlatBy, corners_of as corners_of_tet, cover_stays_at_most}
 use Rattle.mesh_laws.proofs.Regions.{same_cover_stays_at_most}
 use Rattle.mesh_laws.proofs.Weights.{by_four}
 
 -- tetrahedra aren't flat
-pub tetrahedra_not_flat : (tets : List Tetrahedron) → are_tetrahedra tets ≡ true → AreNotFlat tets
+pub tetrahedra_not_flat : (tets : List Tetrahedron) → are_tetrahedra tets ≡ true → NoneIsFlat tets
 tetrahedra_not_flat tets are =
     all_weaker (λ tet. are_corners tet.corners ≡ true) (λ tet. is_flat tet.corners ≡ false) (λ tet is. corners_span tet.corners is) tets (all_pass (λ tet. are_corners tet.corners) tets are)
 
 -- ---- at most once
 pub sound_covers_once : SoundCoversOnce
-sound_covers_once tets marks sound solid = cover_stays_at_most 1 tets [] solid tt (λ p off _. sound.once p off)
+sound_covers_once tets marks sound solid = cover_stays_at_most 1 (λ _ _. true) tets [] solid tt (λ p off _. sound.once p off)
 
-pub sound_face_has_two : SoundFaceHasTwo
-sound_face_has_two tets marks sound solid = no_face_has_three tets solid sound.conforming.sides
+pub conforming_face_has_two : ConformingFaceHasTwo
+conforming_face_has_two tets marks conforming solid = no_face_has_three tets solid conforming.sides
 
 -- ---- listed once
 never : (x : ℤ) → are_alike x (neg_ℤ x) ≡ true → ⊥
@@ -57,23 +59,23 @@ not_beside_itself : (corners : List Coordinates) → is_flat corners ≡ false �
 not_beside_itself = by_four (λ corners. LieOnBothSides corners corners → ⊥) (λ a b c d solid sides.
     never (vol6 a b c d) (sides a b c d d (IsPermutation-refl (a ∷ b ∷ c ∷ d ∷ [])) (IsPermutation-refl (a ∷ b ∷ c ∷ d ∷ []))))
 
-both_sides_distinct : (ts : List (List Coordinates)) → NoneIsFlat (λ t. t) ts → Pairs LieOnBothSides ts → are_distinct (slice_cmp place_cmp) ts ≡ true
+both_sides_distinct : (ts : List (List Coordinates)) → NoneIsFlatBy (λ t. t) ts → Pairs LieOnBothSides ts → are_distinct (slice_cmp place_cmp) ts ≡ true
 both_sides_distinct [] solid pairs = refl
 both_sides_distinct (t ∷ ts) solid pairs =
-    rw (false_from_ne_true (has (slice_cmp place_cmp) t ts) (λ h. not_beside_itself t solid.0 (has_one (LieOnBothSides t) t ts pairs.0 h))) (both_sides_distinct ts solid.1 pairs.1)
+    rw (false_from_ne_true (has (slice_cmp place_cmp) t ts) (λ h. not_beside_itself t solid.0 (all-at exact (LieOnBothSides t) t ts pairs.0 h))) (both_sides_distinct ts solid.1 pairs.1)
 
 -- where no point is within two, all are distinct
-pub once_distinct : (ts : List (List Coordinates)) → NoneIsFlat (λ t. t) ts → ((p : Rational) → count_by (is_inside p) ts ≤ 1) → are_distinct (slice_cmp place_cmp) ts ≡ true
+pub once_distinct : (ts : List (List Coordinates)) → NoneIsFlatBy (λ t. t) ts → ((p : Rational) → count_by (is_inside p) ts ≤ 1) → are_distinct (slice_cmp place_cmp) ts ≡ true
 once_distinct ts solid once = both_sides_distinct ts solid (once_pairs (λ t. t) ts solid once)
 
 pairs_map : (tets : List Tetrahedron) → Pairs (BothSides corners_of_tet) tets → Pairs LieOnBothSides (corner_sets tets)
 pairs_map [] h = tt
 pairs_map (tet ∷ tets) h = (all-map (BothSides corners_of_tet tet) (LieOnBothSides tet.corners) corners_of_tet (λ t k. k) tets h.0, pairs_map tets h.1)
 
-pub sound_is_listed_once : SoundIsListedOnce
-sound_is_listed_once tets marks sound solid =
+pub conforming_is_listed_once : ConformingIsListedOnce
+conforming_is_listed_once tets marks conforming solid =
     both_sides_distinct (corner_sets tets) (all-map (λ tet. is_flat tet.corners ≡ false) (λ t. is_flat t ≡ false) corners_of_tet (λ t k. k) tets solid)
-    (pairs_map tets (pairs_from (BothSides corners_of_tet) tets sound.conforming.sides))
+    (pairs_map tets (pairs_from (BothSides corners_of_tet) tets conforming.sides))
 
 -- ---- sets
 -- as many of a set pass a test as of the list, if its items are distinct
@@ -96,7 +98,7 @@ any-ascending_of {R = R} exact f xs h =
 
 pub sound_as_sets : SoundAsSets
 sound_as_sets tets marks sound solid =
-    let set = sound_in_any_order tets (ascending_of tet_cmp tets) marks (listed_once-permutes tets (sound_is_listed_once tets marks sound solid)) sound in
+    let set = sound_in_any_order tets (ascending_of tet_cmp tets) marks (listed_once-permutes tets (conforming_is_listed_once tets marks sound.conforming solid)) sound in
     record {
       conforming = record {
         sides = set.conforming.sides;
@@ -147,4 +149,4 @@ odd_marked_is_sound tets marks solid once odd on =
 
 pub same_cover_stays_sound : SameCoverStaysSound
 same_cover_stays_sound tets others marks new sound solid others_solid same odd on =
-    odd_marked_is_sound others new others_solid (λ p _. same_cover_stays_at_most 1 tets others solid others_solid same sound.once p) odd on
+    odd_marked_is_sound others new others_solid (λ p _. same_cover_stays_at_most 1 (λ _ _. true) tets others solid others_solid same sound.once p) odd on

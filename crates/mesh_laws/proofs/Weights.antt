@@ -1,6 +1,6 @@
 -- A point as a mean of the corners of a tetrahedron: within it all four weights are positive, and on a face one is zero and none negative.
-use Rattle.std.proofs.Common.{◌≡◌, ◌≢◌, ◌⊎◌, inl, inr, ℕ, zero, suc, Bool, true, false, ◌&&◌, List, [], ◌∷◌, refl, sym, ap, ap₂, ◌∙◌, arith}
-use Rattle.std.specs.Prelude.{ℤ, pos, negsuc, ◌+ℤ◌, ◌-ℤ◌, ◌*ℤ◌, neg_ℤ, ◌<ℤ◌, ◌≤ℤ◌}
+use Rattle.std.proofs.Common.{◌≡◌, ◌≢◌, ◌⊎◌, inl, inr, ⊎_elim, subst, Bool, true, false, ◌&&◌, List, [], ◌∷◌, refl, sym, ap, ap₂, ◌∙◌, arith}
+use Rattle.std.specs.Prelude.{ℤ, pos, ◌+ℤ◌, ◌-ℤ◌, ◌*ℤ◌, neg_ℤ, ◌<ℤ◌, ◌≤ℤ◌}
 use Rattle.std.specs.Ordering.{int_eq}
 use Rattle.std.proofs.Math.IntN.{*ℤ_comm}
 use Rattle.std.proofs.lemmas.Bool.{false≢true}
@@ -9,7 +9,7 @@ use Rattle.ma_geom.specs.Coordinates.{Coordinates}
 use Rattle.ma_geom.specs.Rational.{IsPoint, Rational, side}
 use Rattle.ma_geom.specs.Volume.{vol6}
 use Rattle.ma_geom.proofs.Identities.{cramer_x, cramer_y, cramer_z, flat_exchange_cd, side_exchange_bc, side_turn, sides_sum, vol6_exchange_bc, vol6_exchange_cd, vol6_turn_abc, vol6_turn_bcd}
-use Rattle.ma_geom.proofs.Integers.{positive_factor}
+use Rattle.ma_geom.proofs.Integers.{positive-*ℤ, positive_factor}
 use Rattle.ma_geom.proofs.Ring.{var, neg, ◌⊕◌, ◌⊖◌, ◌⊗◌, entry, ring}
 use Rattle.ma_cells.specs.Tetrahedron.{is_flat}
 use Rattle.ma_cover.specs.Inside.{are_alike, is_beside, is_inside}
@@ -29,25 +29,14 @@ by_four P four (a ∷ b ∷ c ∷ []) h = absurd (false≢true (sym h))
 by_four P four (a ∷ b ∷ c ∷ d ∷ e ∷ l) h = absurd (false≢true (sym h))
 
 -- ---- numbers of one sign
-pub alike_product : (v s : ℤ) → are_alike v s ≡ true → pos 0 <ℤ (v *ℤ s)
-alike_product (pos (suc m)) (pos (suc n)) h = omega (arith, ints)
-alike_product (negsuc m) (negsuc n) h = omega (arith, ints)
-alike_product (pos zero) s h = absurd (no s h)
-  where
-    no : (s : ℤ) → are_alike (pos 0) s ≡ true → ⊥
-    no s h = grind (arith, ints)
-alike_product (pos (suc m)) (pos zero) h = absurd (no m h)
-  where
-    no : (m : ℕ) → are_alike (pos (suc m)) (pos 0) ≡ true → ⊥
-    no m h = grind (arith, ints)
-alike_product (pos (suc m)) (negsuc n) h = absurd (no m n h)
-  where
-    no : (m n : ℕ) → are_alike (pos (suc m)) (negsuc n) ≡ true → ⊥
-    no m n h = grind (arith, ints)
-alike_product (negsuc m) (pos n) h = absurd (no m n h)
-  where
-    no : (m n : ℕ) → are_alike (negsuc m) (pos n) ≡ true → ⊥
-    no m n h = grind (arith, ints)
+alike_cases : (v s : ℤ) → are_alike v s ≡ true → ((pos 0 <ℤ v) × (pos 0 <ℤ s)) ⊎ ((pos 0 <ℤ neg_ℤ v) × (pos 0 <ℤ neg_ℤ s))
+alike_cases v s h = grind (arith, ints)
+
+alike_product : (v s : ℤ) → are_alike v s ≡ true → pos 0 <ℤ (v *ℤ s)
+alike_product v s h =
+    ⊎_elim (λ both. positive-*ℤ v s both.0 both.1)
+    (λ both. subst (λ t. pos 0 <ℤ t) (ring (entry (v ∷ s ∷ [])) (neg (var 0) ⊗ neg (var 1)) (var 0 ⊗ var 1) tt) (positive-*ℤ (neg_ℤ v) (neg_ℤ s) both.0 both.1))
+    (alike_cases v s h)
 
 pub alike_itself : (s : ℤ) → s ≢ pos 0 → are_alike s s ≡ true
 alike_itself s h = grind (arith, ints)
@@ -79,7 +68,7 @@ weight_turn : (a b c d : Coordinates) (p : Rational) → weight b c a d p ≡ we
 weight_turn a b c d p = ap₂ (λ s t. s *ℤ t) (vol6_turn_abc a b c d) (side_turn a b c p)
 
 module _ (a b c d : Coordinates) where
-  turned_a : vol6 b c d a ≡ neg_ℤ (vol6 a b c d)
+  pub turned_a : vol6 b c d a ≡ neg_ℤ (vol6 a b c d)
   turned_a = vol6_exchange_cd b c a d ∙ ap neg_ℤ (vol6_turn_abc a b c d)
 
   -- no face of a tetrahedron that isn't flat makes it flat
@@ -177,17 +166,17 @@ inside_is_point p (a ∷ b ∷ c ∷ d ∷ e ∷ l) h = absurd (false≢true h)
 
 -- ---- a point that keeps the sides of another
 -- that a side keeps its sign, unless it is none
-abbrev pub IsKept : ℤ → ℤ → Type 0
-IsKept s t = s ≢ pos 0 → are_alike s t ≡ true
+abbrev pub KeepsSign : ℤ → ℤ → Type 0
+KeepsSign s t = s ≢ pos 0 → are_alike s t ≡ true
 
-after : (v s t : ℤ) → IsKept s t → are_alike v s ≡ true → are_alike v t ≡ true
+after : (v s t : ℤ) → KeepsSign s t → are_alike v s ≡ true → are_alike v t ≡ true
 after v s t kept h = by v s t h (kept (alike_some v s h).1)
   where
     by : (v s t : ℤ) → are_alike v s ≡ true → are_alike s t ≡ true → are_alike v t ≡ true
     by v s t h k = grind (arith, ints)
 
 -- it was strictly there, or on the plane
-before : (v s t : ℤ) → IsKept s t → are_alike v t ≡ true → (s ≡ pos 0) ⊎ (are_alike v s ≡ true)
+before : (v s t : ℤ) → KeepsSign s t → are_alike v t ≡ true → (s ≡ pos 0) ⊎ (are_alike v s ≡ true)
 before v s t kept h = elim (is_or_not s) [ inl e ↦ inl e | inr some ↦ inr (by v s t h (kept some)) ]
   where
     by : (v s t : ℤ) → are_alike v t ≡ true → are_alike s t ≡ true → are_alike v s ≡ true
@@ -209,7 +198,7 @@ or_absurd (inr q) h = q
 
 -- a point that is off the closed faces of a tetrahedron is within it just if one that keeps its sides is
 pub inside_kept : (a b c d : Coordinates) (p q : Rational) → vol6 a b c d ≢ pos 0 → IsOffFacesOf p (a ∷ b ∷ c ∷ d ∷ [])
-    → IsKept (side b c d p) (side b c d q) → IsKept (side a c d p) (side a c d q) → IsKept (side a b d p) (side a b d q) → IsKept (side a b c p) (side a b c q)
+    → KeepsSign (side b c d p) (side b c d q) → KeepsSign (side a c d p) (side a c d q) → KeepsSign (side a b d p) (side a b d q) → KeepsSign (side a b c p) (side a b c q)
     → is_inside q (a ∷ b ∷ c ∷ d ∷ []) ≡ is_inside p (a ∷ b ∷ c ∷ d ∷ [])
 inside_kept a b c d p q solid off kept_a kept_b kept_c kept_d = iff _ _ back forth
   where

@@ -3,4 +3,5 @@ pub mod Covers
 pub mod Sides
 pub mod Parity
 pub mod Sounds
+pub mod FivePlaces
 pub mod Adapted

@@ -1,10 +1,10 @@
 -- Tetrahedra that share a face.
-use Rattle.std.specs.Prelude.{ℕ, pos, ◌≡◌, ◌≢◌, ◌≤◌, true, false, List, [], ◌∷◌}
+use Rattle.std.specs.Prelude.{ℕ, ◌≡◌, ◌≤◌, true, false, List, [], ◌∷◌}
 use Rattle.std.specs.Cmp.Lexicographic.{slice_cmp}
 use Rattle.std.specs.List.{AllByRecursion, AllPairs, count_by}
 use Rattle.ma_geom.specs.Coordinates.{Coordinates, place_cmp}
-use Rattle.ma_geom.specs.Lines.{collinear, is_flat}
-use Rattle.ma_geom.specs.Rational.{Rational, side}
+use Rattle.ma_geom.specs.Lines.{is_flat}
+use Rattle.ma_geom.specs.Rational.{Rational}
 use Rattle.ma_geom.specs.Volume.{vol6}
 use Rattle.ma_cells.specs.Ascending.{has}
 use Rattle.ma_cells.specs.Faces.{faces_of}
@@ -13,12 +13,7 @@ use Rattle.ma_cover.specs.Cover.{whole_cover}
 use Rattle.ma_cover.specs.Inside.{are_alike, is_inside}
 use Rattle.ma_cover.specs.OnFaces.{IsOffFaces}
 use Rattle.ma_cover.specs.Sound.{LieOnBothSides}
-use Rattle.mesh_laws.specs.Points.{AreNotFlat}
-
--- that a point is off the plane of a triangle, unless its corners are on one line
-abbrev pub IsOffPlane : Rational → List Coordinates → Type 0
-IsOffPlane p (a ∷ b ∷ c ∷ []) = collinear a b c ≡ false → side a b c p ≢ pos 0
-IsOffPlane p _ = Unit {0}
+use Rattle.mesh_laws.specs.Points.{NoneIsFlat, IsOffPlane}
 
 -- that a point is within two tetrahedra, which are given by their corners, and off the planes of some triangles
 pub record IsCommon (p : Rational) (s t : List Coordinates) (triangles : List (List Coordinates)) : Type 0 where
@@ -37,7 +32,7 @@ TetrahedronHasPoint = (corners : List Coordinates) → is_flat corners ≡ false
 
 -- where no point off the closed faces is within two tetrahedra, any two lie on both sides of each face that they share
 abbrev pub OnceLieOnBothSides : Type 0
-OnceLieOnBothSides = (tets : List Tetrahedron) → AreNotFlat tets → ((p : Rational) → IsOffFaces p tets → whole_cover p tets ≤ 1)
+OnceLieOnBothSides = (tets : List Tetrahedron) → NoneIsFlat tets → ((p : Rational) → IsOffFaces p tets → whole_cover p tets ≤ 1)
     → AllPairs (λ s t. LieOnBothSides s.corners t.corners) tets
 
 -- how many tetrahedra have a face, in whatever regions
@@ -46,5 +41,5 @@ whole_holders face tets = count_by (λ tet. has (slice_cmp place_cmp) face (face
 
 -- where any two tetrahedra lie on both sides of each face that they share, no face is shared by three
 abbrev pub NoFaceHasThree : Type 0
-NoFaceHasThree = (tets : List Tetrahedron) → AreNotFlat tets → AllPairs (λ s t. LieOnBothSides s.corners t.corners) tets
+NoFaceHasThree = (tets : List Tetrahedron) → NoneIsFlat tets → AllPairs (λ s t. LieOnBothSides s.corners t.corners) tets
     → (face : List Coordinates) → whole_holders face tets ≤ 2

@@ -1,17 +1,18 @@
 //! Each law is the contract of a function that does nothing.
 ghost use Rattle.mesh_laws.specs.Adapted.{AdaptedComposes, SoundIsAdapted};
-ghost use Rattle.mesh_laws.specs.Covers.{CoverStaysAtMost, RegionsGiveWholeCover, SameCoverIsHandedOn, SameCoverStaysAtMost};
-ghost use Rattle.mesh_laws.specs.Parity.{OddFacesDecideParity};
+ghost use Rattle.mesh_laws.specs.Covers.{CoverStaysAtMost, RegionsGiveCover, SameCoverIsHandedOn, SameCoverStaysAtMost};
+ghost use Rattle.mesh_laws.specs.FivePlaces.{FivePlacesCancel};
+ghost use Rattle.mesh_laws.specs.Parity.{HoldersAreListings, SameOddlyPassOddly};
 ghost use Rattle.mesh_laws.specs.Points.{OnlyPointsAreInside, PointsMoveOffFaces, PointsMoveOffPlanes};
 ghost use Rattle.mesh_laws.specs.Sides.{NoFaceHasThree, OnceLieOnBothSides, OneSideHasCommonPoint, TetrahedronHasPoint};
-ghost use Rattle.mesh_laws.specs.Sounds.{ConformingOddAreMarked, OddMarkedIsSound, SameCoverStaysSound, SoundAsSets, SoundCoversOnce, SoundFaceHasTwo, SoundIsListedOnce};
+ghost use Rattle.mesh_laws.specs.Sounds.{ConformingFaceHasTwo, ConformingIsListedOnce, ConformingOddAreMarked, OddMarkedIsSound, SameCoverStaysSound, SoundAsSets, SoundCoversOnce};
 
 /// A point can be moved off planes, and keeps the strict sides that it has.
 pub fn points_move_off_planes()
     ensures { PointsMoveOffPlanes }
 {}
 
-/// It can be moved off closed faces, and stays within tetrahedra or without.
+/// It can be moved off closed faces too, and stays within tetrahedra or without.
 pub fn points_move_off_faces()
     ensures { PointsMoveOffFaces }
 {}
@@ -19,6 +20,11 @@ pub fn points_move_off_faces()
 /// Only what stands for a point is within a tetrahedron.
 pub fn only_points_are_inside()
     ensures { OnlyPointsAreInside }
+{}
+
+/// What the five tetrahedra of five places enclose cancels.
+pub fn five_places_cancel()
+    ensures { FivePlacesCancel }
 {}
 
 /// A bound of the cover off closed faces bounds it on them too.
@@ -29,6 +35,16 @@ pub fn cover_stays_at_most()
 /// The same cover is handed on from list to list.
 pub fn same_cover_is_handed_on()
     ensures { SameCoverIsHandedOn }
+{}
+
+/// The covers of all regions give that of whichever together.
+pub fn regions_give_cover()
+    ensures { RegionsGiveCover }
+{}
+
+/// The same cover has the same bounds.
+pub fn same_cover_stays_at_most()
+    ensures { SameCoverStaysAtMost }
 {}
 
 /// Tetrahedra on one side of a face that they share have a common point, off any planes.
@@ -51,19 +67,29 @@ pub fn no_face_has_three()
     ensures { NoFaceHasThree }
 {}
 
-/// What is listed twice doesn't matter to whether an odd number of faces pass a test.
-pub fn odd_faces_decide_parity()
-    ensures { OddFacesDecideParity }
+/// What is listed twice falls away, where it matters only whether an odd number of faces pass a test.
+pub fn same_oddly_pass_oddly()
+    ensures { SameOddlyPassOddly }
 {}
 
-/// The covers of all regions give the whole cover.
-pub fn regions_give_whole_cover()
-    ensures { RegionsGiveWholeCover }
+/// A face is listed among those of a region as often as tetrahedra have it.
+pub fn holders_are_listings()
+    ensures { HoldersAreListings }
 {}
 
-/// What covers the same as a list with a bound keeps the bound.
-pub fn same_cover_stays_at_most()
-    ensures { SameCoverStaysAtMost }
+/// No two tetrahedra of a conforming mesh have the same corners.
+pub fn conforming_is_listed_once()
+    ensures { ConformingIsListedOnce }
+{}
+
+/// At most two of its tetrahedra have a face.
+pub fn conforming_face_has_two()
+    ensures { ConformingFaceHasTwo }
+{}
+
+/// A face that an odd number of the tetrahedra of a region have is marked.
+pub fn conforming_odd_are_marked()
+    ensures { ConformingOddAreMarked }
 {}
 
 /// A sound mesh covers each point at most once.
@@ -71,24 +97,9 @@ pub fn sound_covers_once()
     ensures { SoundCoversOnce }
 {}
 
-/// No two of its tetrahedra have the same corners.
-pub fn sound_is_listed_once()
-    ensures { SoundIsListedOnce }
-{}
-
 /// It is sound as sets.
 pub fn sound_as_sets()
     ensures { SoundAsSets }
-{}
-
-/// At most two of its tetrahedra have a face.
-pub fn sound_face_has_two()
-    ensures { SoundFaceHasTwo }
-{}
-
-/// In a conforming mesh a face that an odd number of tetrahedra of a region have is marked.
-pub fn conforming_odd_are_marked()
-    ensures { ConformingOddAreMarked }
 {}
 
 /// A mesh without a point within two tetrahedra is sound, if such faces are marked and its marks are on cells.

@@ -8,7 +8,7 @@ use Rattle.ma_cells.proofs.Passing.{all-flat_map}
 use Rattle.size_marks.specs.Field.{Field}
 use Rattle.split_templates.specs.Pieces.{bisected_along, halves}
 use Rattle.split_templates.proofs.Sets.{bisected_along-append}
-use Rattle.mesh_laws.proofs.BothSides.{same, same_is, same_itself}
+use Rattle.mesh_laws.proofs.Listings.{same, same_is, same_itself}
 use Rattle.mesh_laws.proofs.Oddly.{odd-alike, odd-each, odd-flat_map, odd_of, xor}
 use Rattle.refinement.proofs.Bisecting.{bisected, by_halves, kind_halves, own_edges, own_edges_rise}
 use Rattle.refinement.proofs.Covered.{AreCorners, halves_are_corners}
@@ -83,7 +83,7 @@ along_each edges [] = none edges
 along_each edges (c ∷ cells) = bisected_along-append edges (c ∷ []) cells ∙ ap (λ rest. bisected_along edges (c ∷ []) ++ rest) (along_each edges cells)
 
 -- ---- one tetrahedron at its own long edges
-nothing_after : (xs : List (List Coordinates)) → xs ++ [] ≡ xs
+pub nothing_after : (xs : List (List Coordinates)) → xs ++ [] ≡ xs
 nothing_after [] = refl
 nothing_after (x ∷ xs) = ap (λ rest. x ∷ rest) (nothing_after xs)
 

@@ -15,15 +15,16 @@ use Rattle.ma_cells.specs.Bisection.{bisect, replaced}
 use Rattle.ma_cells.specs.Faces.{choices, faces_of, holds_all}
 use Rattle.ma_cells.specs.Tetrahedron.{are_corners}
 use Rattle.ma_cells.proofs.Ascents.{has-ascending_of, same_sorted, sorted-ascending_of}
-use Rattle.ma_cells.proofs.Bisections.{bisect-with, bisect-without, has-replaced}
+use Rattle.ma_cells.proofs.Bisections.{bisect-with, has-replaced}
 use Rattle.ma_cells.proofs.Choices.{all-append, choices-ascend}
 use Rattle.ma_cells.proofs.Corners.{ascending_is, corners_rise}
 use Rattle.ma_cells.proofs.FourPlaces.{OfFour, in_any_order}
-use Rattle.ma_cells.proofs.Passing.{all-flat_map, all_pass, all_weaker}
+use Rattle.ma_cells.proofs.Passing.{all-flat_map, all-map, all_pass, all_weaker}
 use Rattle.ma_cells.proofs.Permutations.{apart, tied}
 use Rattle.ma_cells.proofs.Pieces.{has_edge, replaced_first, replaced_second}
-use Rattle.mesh_laws.proofs.BothSides.{same}
+use Rattle.mesh_laws.proofs.Listings.{same}
 use Rattle.mesh_laws.proofs.Oddly.{odd-each, odd-flat_map, odd_of, xor}
+use Rattle.refinement.proofs.Bisecting.{bisect-without}
 use Rattle.refinement.proofs.Covered.{AreCorners, halves_are_corners}
 use Rattle.refinement.proofs.Rising.{Rises, bisect_rises}
 
@@ -136,20 +137,17 @@ differ_bd a b c d solid e = solid (ap (λ t. vol6 a b c t) (sym e) ∙ vol6_same
 abbrev pub IsWithin : List Coordinates → List Coordinates → Type 0
 IsWithin corners f = (q : Coordinates) → has place_cmp q f ≡ true → has place_cmp q corners ≡ true
 
-within_head : (x : Coordinates) (xs : List Coordinates) (fs : List (List Coordinates)) → AllByRecursion (IsWithin xs) fs → AllByRecursion (IsWithin (x ∷ xs)) (map (λ f. x ∷ f) fs)
-within_head x xs [] all = tt
-within_head x xs (f ∷ fs) all = ((λ q. by (eq q x) (all.0 q)), within_head x xs fs all.1)
-  where
-    by : (b : Bool) {s t : Bool} → (s ≡ true → t ≡ true) → (b || s) ≡ true → (b || t) ≡ true
-    by true k h = refl
-    by false k h = k h
-
 pub within_choices : (n : ℕ) (xs : List Coordinates) → AllByRecursion (IsWithin xs) (choices n xs)
 within_choices zero xs = ((λ q h. absurd (false≢true h)), tt)
 within_choices (suc n) [] = tt
 within_choices (suc n) (x ∷ xs) =
-    all-append (IsWithin (x ∷ xs)) (map (λ f. x ∷ f) (choices n xs)) (choices (suc n) xs) (within_head x xs (choices n xs) (within_choices n xs))
+    all-append (IsWithin (x ∷ xs)) (map (λ f. x ∷ f) (choices n xs)) (choices (suc n) xs)
+    (all-map (IsWithin xs) (IsWithin (x ∷ xs)) (λ f. x ∷ f) (λ f within q. by (eq q x) (within q)) (choices n xs) (within_choices n xs))
     (all_weaker (IsWithin xs) (IsWithin (x ∷ xs)) (λ f within q h. or_right (eq q x) (has place_cmp q xs) (within q h)) (choices (suc n) xs) (within_choices (suc n) xs))
+  where
+    by : (b : Bool) {s t : Bool} → (s ≡ true → t ≡ true) → (b || s) ≡ true → (b || t) ≡ true
+    by true k h = refl
+    by false k h = k h
 
 pub within_faces : (corners : List Coordinates) → AllByRecursion (IsWithin corners) (faces_of corners)
 within_faces corners = within_choices 3 corners

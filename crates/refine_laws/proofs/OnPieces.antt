@@ -17,7 +17,7 @@ use Rattle.ma_cells.specs.Tetrahedron.{Tetrahedron, is_flat, tet_cmp}
 use Rattle.ma_cells.specs.declared.cell.Cell.{Cell}
 use Rattle.ma_cells.specs.declared.cell.Cell.TheVariants.{Point, Seg, Tri}
 use Rattle.ma_cells.proofs.Ascents.{has-head, strict_from_ascending}
-use Rattle.ma_cells.proofs.Bisections.{bisect-without, has-replaced}
+use Rattle.ma_cells.proofs.Bisections.{has-replaced}
 use Rattle.ma_cells.proofs.CellOrders.{tet_cmp-IsAntisymmetric}
 use Rattle.ma_cells.proofs.Choices.{has-choices}
 use Rattle.ma_cells.proofs.Corners.{corners_rise, corners_span}
@@ -26,13 +26,14 @@ use Rattle.ma_cells.proofs.Permutations.{same as same_place}
 use Rattle.ma_cells.proofs.SetItems.{all-ascending_of}
 use Rattle.ma_cover.specs.Classification.{AnyByRecursion}
 use Rattle.ma_cover.proofs.Anys.{all_given, any-ascending_of, any-map, any_and_all, any_gives, any_pass, any_weaker, test_any}
-use Rattle.mesh_laws.proofs.BothSides.{has_one}
+use Rattle.mesh_laws.proofs.Listings.{exact}
+use Rattle.ma_cells.proofs.Members.{all-at}
 use Rattle.mesh_laws.proofs.MovedOff.{bent}
 use Rattle.mesh_laws.proofs.Weights.{by_four, some_a, some_b, some_c}
 use Rattle.size_marks.specs.Field.{Field}
 use Rattle.split_templates.specs.Pieces.{bisected_along, halves, is_straight, pieces_of}
 use Rattle.refinement.specs.Refinement.{long_edges, refined_cell, refined_tet}
-use Rattle.refinement.proofs.Bisecting.{bisected, by_halves, own_edges, own_edges_rise}
+use Rattle.refinement.proofs.Bisecting.{bisect-without, bisected, by_halves, own_edges, own_edges_rise}
 use Rattle.refinement.proofs.Covered.{AreCorners, IsNotFlat, with_corners}
 use Rattle.refinement.proofs.Rising.{Rises, its_corners_rise}
 use Rattle.refine_marks.proofs.CellsKept.{its_count}
@@ -122,7 +123,7 @@ faces_bent = by_four (λ corners. AllByRecursion (λ f. is_straight f ≡ false)
 
 corners_bent : (corners face : List Coordinates) → AreCorners corners → IsWithin corners face → Rises face → length face ≡ 3 → is_straight face ≡ false
 corners_bent corners face are within up three =
-    has_one (λ f. is_straight f ≡ false) face (faces_of corners) (faces_bent corners (corners_span corners are))
+    all-at exact (λ f. is_straight f ≡ false) face (faces_of corners) (faces_bent corners (corners_span corners are))
     (ap (λ n. has (slice_cmp place_cmp) face (choices n corners)) (sym three)
     ∙ has-choices place_cmp_total face corners (strict_from_ascending place_cmp_total face up) (strict_from_ascending place_cmp_total corners (corners_rise corners are))
     ∙ within_holds_all corners face within)

@@ -2,7 +2,7 @@
 use Rattle.std.proofs.Common.{◌≡◌, ◌≢◌, ℕ, zero, suc, Bool, true, false, cond, ◌&&◌, ◌||◌, List, [], ◌∷◌, ◌++◌, length, filter, Option, Some, None, refl, sym, ap, ap₂, subst, ◌∙◌, arith}
 use Rattle.std.specs.Prelude.{map, not, ℤ, neg_ℤ}
 use Rattle.std.specs.declared.cmp.Ordering.{Ordering}
-use Rattle.std.specs.Cmp.{IsTotalOrder, Equal-is, both_ways, int_cmp_total, tied_itself}
+use Rattle.std.specs.Cmp.{IsTotalOrder, both_ways, int_cmp_total, tied_itself}
 use Rattle.std.specs.Cmp.Lexicographic.{slice_cmp, lists_total}
 use Rattle.std.specs.FinMap.{IsAntisymmetric, slice_cmp-IsAntisymmetric}
 use Rattle.std.specs.List.{AllByRecursion, flat_map}
@@ -19,10 +19,11 @@ use Rattle.ma_cells.specs.Bisection.{bisect, replaced}
 use Rattle.ma_cells.specs.Faces.{choices, edges_of, holds_all}
 use Rattle.ma_cells.specs.Tetrahedron.{are_corners, is_flat}
 use Rattle.ma_cells.proofs.Ascents.{has-ascending_of, is-ascending_of, sorted-ascending_of, strict_from_ascending}
-use Rattle.ma_cells.proofs.Bisections.{bisect-without, has-replaced}
+use Rattle.ma_cells.proofs.Bisections.{has-replaced}
 use Rattle.ma_cells.proofs.Choices.{all-append, choices-ascend, has-choices}
 use Rattle.ma_cells.proofs.Corners.{corners_rise, corners_span}
-use Rattle.ma_cells.proofs.Passing.{all-filter, all_pass}
+use Rattle.ma_cells.proofs.Members.{all-at, has-filter, tied_is}
+use Rattle.ma_cells.proofs.Passing.{all-filter, all-map, all_pass}
 use Rattle.ma_cells.proofs.Permutations.{same as same_place, tied}
 use Rattle.ma_cells.proofs.Pieces.{middle_is_new}
 use Rattle.ma_cells.proofs.SetItems.{all-ascending_of}
@@ -31,7 +32,7 @@ use Rattle.split_templates.specs.Edges.{edge_cmp, edge_len2, is_long_edge}
 use Rattle.split_templates.specs.Pieces.{bisected_along, halves_at}
 use Rattle.split_templates.proofs.Middles.{midpoint-IsMiddle}
 use Rattle.refinement.specs.Refinement.{long_edges}
-use Rattle.refinement.proofs.Bisecting.{bisected, ends_differ, own_edges}
+use Rattle.refinement.proofs.Bisecting.{bisect-without, bisected, ends_differ, own_edges}
 use Rattle.refine_marks.proofs.CellsKept.{all_both}
 use Rattle.refine_laws.proofs.HalvedFaces.{IsWithin, within_choices}
 
@@ -42,73 +43,37 @@ eq = eq_by_cmp place_cmp
 turned : (a b : ℤ) → int_cmp (neg_ℤ a) (neg_ℤ b) ≡ int_cmp b a
 turned a b = grind (arith, ints)
 
-pub edge_cmp_total : IsTotalOrder edge_cmp
+edge_cmp_total : IsTotalOrder edge_cmp
 edge_cmp_total =
     subst (λ R. IsTotalOrder R) (λ i e f. ordering_then (turned (edge_len2 e) (edge_len2 f) i) (slice_cmp place_cmp e f))
     (then_total (on_total (λ (e : List Coordinates). neg_ℤ (edge_len2 e)) int_cmp_total) (lists_total place_cmp_total))
 
-pub edge_cmp-IsAntisymmetric : IsAntisymmetric edge_cmp
+edge_cmp-IsAntisymmetric : IsAntisymmetric edge_cmp
 edge_cmp-IsAntisymmetric e f tie = slice_cmp-IsAntisymmetric place_cmp-IsAntisymmetric e f (both_tie (int_cmp (edge_len2 f) (edge_len2 e)) _ tie).1
 
 -- ---- members
-module _ {K : Type 0} {R : K → K → Ordering} (exact : IsAntisymmetric R) where
-  is_same : (x y : K) → eq_by_cmp R x y ≡ true → x ≡ y
-  is_same x y t = exact x y ((Equal-is (R x y)).0 t)
-
-  pub has-filter : (test : K → Bool) (q : K) (xs : List K) → has R q (filter test xs) ≡ (test q && has R q xs)
-  has-filter test q [] = none (test q)
-    where
-      none : (b : Bool) → false ≡ (b && false)
-      none true = refl
-      none false = refl
-  has-filter test q (x ∷ xs) =
-      elim (test x) as (λ t. test x ≡ t → has R q (cond t (x ∷ filter test xs) (filter test xs)) ≡ (test q && (eq_by_cmp R q x || has R q xs))) [
-        | true ↦ λ e. ap (λ b. eq_by_cmp R q x || b) (has-filter test q xs) ∙ at_true (eq_by_cmp R q x) (test q) (has R q xs) (λ t. ap test (is_same q x t) ∙ e)
-        | false ↦ λ e. has-filter test q xs ∙ at_false (eq_by_cmp R q x) (test q) (has R q xs) (λ t. ap test (is_same q x t) ∙ e)
-      ] refl
-    where
-      at_true : (s t u : Bool) → (s ≡ true → t ≡ true) → (s || (t && u)) ≡ (t && (s || u))
-      at_true true t u h = rw (h refl) refl
-      at_true false t u h = refl
-
-      at_false : (s t u : Bool) → (s ≡ true → t ≡ false) → (t && u) ≡ (t && (s || u))
-      at_false true t u h = rw (h refl) refl
-      at_false false t u h = refl
-
-  -- what holds of each item holds of each that the list has
-  pub of_item : (P : K → Type 0) (q : K) (xs : List K) → AllByRecursion P xs → has R q xs ≡ true → P q
-  of_item P q [] all h = absurd (false≢true h)
-  of_item P q (x ∷ xs) all h =
-      elim (eq_by_cmp R q x) as (λ b. eq_by_cmp R q x ≡ b → (b || has R q xs) ≡ true → P q) [
-        | true ↦ λ e _. subst P (sym (is_same q x e)) all.0
-        | false ↦ λ _ k. of_item P q xs all.1 k
-      ] refl h
-
 -- two orders in which only equal items tie
-pub has-either : {K : Type 0} {R S : K → K → Ordering} → IsTotalOrder R → IsTotalOrder S → IsAntisymmetric R → IsAntisymmetric S → (q : K) (xs : List K) → has R q xs ≡ has S q xs
+has-either : {K : Type 0} {R S : K → K → Ordering} → IsTotalOrder R → IsTotalOrder S → IsAntisymmetric R → IsAntisymmetric S → (q : K) (xs : List K) → has R q xs ≡ has S q xs
 has-either r s exact_r exact_s q [] = refl
 has-either {K} {R} {S} r s exact_r exact_s q (x ∷ xs) =
     ap₂ (λ a b. a || b) (both_ways (eq_by_cmp R q x) (eq_by_cmp S q x)
-    (λ t. subst (λ y. eq_by_cmp S q y ≡ true) (is_same exact_r q x t) (ap is_eq (tied_itself s q)))
-    (λ t. subst (λ y. eq_by_cmp R q y ≡ true) (is_same exact_s q x t) (ap is_eq (tied_itself r q))))
+    (λ t. subst (λ y. eq_by_cmp S q y ≡ true) (tied_is exact_r q x t) (ap is_eq (tied_itself s q)))
+    (λ t. subst (λ y. eq_by_cmp R q y ≡ true) (tied_is exact_s q x t) (ap is_eq (tied_itself r q))))
     (has-either r s exact_r exact_s q xs)
 
 -- ---- edges
-length_head : (n : ℕ) (x : Coordinates) (fs : List (List Coordinates)) → AllByRecursion (λ f. length f ≡ n) fs → AllByRecursion (λ f. length f ≡ suc n) (map (λ f. x ∷ f) fs)
-length_head n x [] all = tt
-length_head n x (f ∷ fs) all = (ap suc all.0, length_head n x fs all.1)
-
-pub length_choices : (n : ℕ) (xs : List Coordinates) → AllByRecursion (λ f. length f ≡ n) (choices n xs)
+length_choices : (n : ℕ) (xs : List Coordinates) → AllByRecursion (λ f. length f ≡ n) (choices n xs)
 length_choices zero xs = (refl, tt)
 length_choices (suc n) [] = tt
 length_choices (suc n) (x ∷ xs) =
-    all-append (λ f. length f ≡ suc n) (map (λ f. x ∷ f) (choices n xs)) (choices (suc n) xs) (length_head n x (choices n xs) (length_choices n xs)) (length_choices (suc n) xs)
+    all-append (λ f. length f ≡ suc n) (map (λ f. x ∷ f) (choices n xs)) (choices (suc n) xs)
+    (all-map (λ f. length f ≡ n) (λ f. length f ≡ suc n) (λ f. x ∷ f) (λ f e. ap suc e) (choices n xs) (length_choices n xs)) (length_choices (suc n) xs)
 
 -- that these are two ends in ascending order, both of them corners
-abbrev pub IsEdge : List Coordinates → List Coordinates → Type 0
+abbrev IsEdge : List Coordinates → List Coordinates → Type 0
 IsEdge corners e = (are_ascending place_cmp e ≡ true) × ((length e ≡ 2) × IsWithin corners e)
 
-pub edges_are : (corners : List Coordinates) → are_ascending place_cmp corners ≡ true → AllByRecursion (IsEdge corners) (edges_of corners)
+edges_are : (corners : List Coordinates) → are_ascending place_cmp corners ≡ true → AllByRecursion (IsEdge corners) (edges_of corners)
 edges_are corners up =
     all_both (λ e. are_ascending place_cmp e ≡ true) (λ e. (length e ≡ 2) × IsWithin corners e) (edges_of corners)
     (all_pass (are_ascending place_cmp) (edges_of corners) (choices-ascend place_cmp_total 2 corners up))
@@ -128,35 +93,36 @@ within_holds corners cell (q ∷ e) within h =
     and_from (has place_cmp q corners) (holds_all corners e) (within q parts.0) (within_holds corners cell e within parts.1)
 
 module _ (field : Field) (corners cell : List Coordinates) (up : are_ascending place_cmp corners ≡ true) (cell_up : are_ascending place_cmp cell ≡ true) (within : IsWithin corners cell) where
-  both_have : (q : List Coordinates) → (holds_all cell q && has edge_cmp q (edges_of corners)) ≡ has edge_cmp q (edges_of cell)
+  both_have : (q : List Coordinates) → (has edge_cmp q (edges_of corners) && holds_all cell q) ≡ has edge_cmp q (edges_of cell)
   both_have q =
-      both_ways (holds_all cell q && has edge_cmp q (edges_of corners)) (has edge_cmp q (edges_of cell))
+      both_ways (has edge_cmp q (edges_of corners) && holds_all cell q) (has edge_cmp q (edges_of cell))
       (λ h.
-      let parts = and_parts (holds_all cell q) (has edge_cmp q (edges_of corners)) h in
-      let is = of_item edge_cmp-IsAntisymmetric (IsEdge corners) q (edges_of corners) (edges_are corners up) parts.1 in
-      edge_holds cell q cell_up is.0 is.1.0 ∙ parts.0)
+      let parts = and_parts (has edge_cmp q (edges_of corners)) (holds_all cell q) h in
+      let is = all-at edge_cmp-IsAntisymmetric (IsEdge corners) q (edges_of corners) (edges_are corners up) parts.0 in
+      edge_holds cell q cell_up is.0 is.1.0 ∙ parts.1)
       (λ h.
-      let is = of_item edge_cmp-IsAntisymmetric (IsEdge cell) q (edges_of cell) (edges_are cell cell_up) h in
+      let is = all-at edge_cmp-IsAntisymmetric (IsEdge cell) q (edges_of cell) (edges_are cell cell_up) h in
       let held = sym (edge_holds cell q cell_up is.0 is.1.0) ∙ h in
-      and_from (holds_all cell q) (has edge_cmp q (edges_of corners)) held (edge_holds corners q up is.0 is.1.0 ∙ within_holds corners cell q within held))
+      and_from (has edge_cmp q (edges_of corners)) (holds_all cell q) (edge_holds corners q up is.0 is.1.0 ∙ within_holds corners cell q within held) held)
 
   -- the tetrahedron's edges that are the cell's, in their order
-  pub edges_are_own : filter (holds_all cell) (own_edges field corners) ≡ own_edges field cell
+  edges_are_own : filter (holds_all cell) (own_edges field corners) ≡ own_edges field cell
   edges_are_own =
       is-ascending_of edge_cmp_total edge_cmp-IsAntisymmetric (filter (holds_all cell) (own_edges field corners)) (long_edges field cell)
       (IsStrictlySortedBy-filter edge_cmp (holds_all cell) (own_edges field corners) (sorted-ascending_of edge_cmp_total (long_edges field corners)))
       (λ q.
       has-filter edge_cmp-IsAntisymmetric (holds_all cell) q (own_edges field corners)
-      ∙ ap (λ b. holds_all cell q && b) (has-ascending_of edge_cmp_total q (long_edges field corners) ∙ has-filter edge_cmp-IsAntisymmetric (is_long_edge field) q (edges_of corners))
-      ∙ exchanged (holds_all cell q) (is_long_edge field q) (has edge_cmp q (edges_of corners))
-      ∙ ap (λ b. is_long_edge field q && b) (both_have q)
+      ∙ ap (λ b. b && holds_all cell q) (has-ascending_of edge_cmp_total q (long_edges field corners) ∙ has-filter edge_cmp-IsAntisymmetric (is_long_edge field) q (edges_of corners))
+      ∙ exchanged (has edge_cmp q (edges_of corners)) (is_long_edge field q) (holds_all cell q)
+      ∙ ap (λ b. b && is_long_edge field q) (both_have q)
       ∙ sym (has-filter edge_cmp-IsAntisymmetric (is_long_edge field) q (edges_of cell)))
     where
-      exchanged : (s t u : Bool) → (s && (t && u)) ≡ (t && (s && u))
-      exchanged true true u = refl
-      exchanged true false u = refl
-      exchanged false true u = refl
-      exchanged false false u = refl
+      exchanged : (s t u : Bool) → ((s && t) && u) ≡ ((s && u) && t)
+      exchanged false t u = refl
+      exchanged true true true = refl
+      exchanged true true false = refl
+      exchanged true false true = refl
+      exchanged true false false = refl
 
 -- ---- pieces of a cell of a tetrahedron
 module _ (corners cell : List Coordinates) (solid : is_flat corners ≡ false) where
@@ -203,7 +169,7 @@ module _ (corners cell : List Coordinates) (solid : is_flat corners ≡ false) w
       no_edge true false e f = refl
       no_edge false t' e f = refl
 
-  pub own_only : (edges : List (List Coordinates)) → AllByRecursion (IsEdge corners) edges → (pieces : List (List Coordinates)) → AllByRecursion HasOwn pieces
+  own_only : (edges : List (List Coordinates)) → AllByRecursion (IsEdge corners) edges → (pieces : List (List Coordinates)) → AllByRecursion HasOwn pieces
       → bisected_along edges pieces ≡ bisected_along (filter (holds_all cell) edges) pieces
   own_only [] are pieces own = refl
   own_only ([] ∷ edges) are pieces own = absurd (omega (arith, are.0.1.0))

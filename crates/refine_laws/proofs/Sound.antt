@@ -22,9 +22,10 @@ use Rattle.ma_cover.specs.Classification.{AnyByRecursion}
 use Rattle.ma_cover.proofs.Anys.{any-ascending_of, any-flat_map, any-map, any_and_all, any_pass, any_weaker, test_any}
 use Rattle.mesh_laws.specs.Adapted.{IsSoundMesh}
 use Rattle.mesh_laws.specs.Covers.{CoverTheSame}
+use Rattle.mesh_laws.specs.Parity.{region_faces}
 use Rattle.mesh_laws.specs.Sounds.{AreOnCells, OddAreMarked}
 use Rattle.mesh_laws.proofs.Adapted.{sound_not_flat}
-use Rattle.mesh_laws.proofs.BothSides.{same, same_is, same_itself}
+use Rattle.mesh_laws.proofs.Listings.{same, same_is, same_itself}
 use Rattle.mesh_laws.proofs.Oddly.{odd_of, odd_one, xor}
 use Rattle.mesh_laws.proofs.Sounds.{conforming_odd_are_marked, same_cover_stays_sound, sound_covers_once, tetrahedra_not_flat}
 use Rattle.size_marks.specs.Field.{Field}
@@ -37,7 +38,7 @@ use Rattle.refine_marks.proofs.CellsKept.{all_both, its_count, refinement_keeps_
 use Rattle.refine_marks.proofs.Classified.{refinement_keeps_classification}
 use Rattle.refine_laws.specs.Sound.{RefinementAdapts, RefinementKeepsSound}
 use Rattle.refine_laws.proofs.OnPieces.{cell_pieces_on, faces_bent}
-use Rattle.refine_laws.proofs.Parity.{are_not_flat, gives_it, holders_are_odd, refined_oddly, region_faces}
+use Rattle.refine_laws.proofs.Parity.{are_not_flat, gives_it, holders_are_odd, refined_oddly}
 
 -- what is listed an odd number of times is listed
 odd_any : (g : List Coordinates) (xs : List (List Coordinates)) → odd_of (same g) xs ≡ true → AnyByRecursion (λ x. same x g ≡ true) xs

@@ -10,7 +10,7 @@ use Rattle.ma_geom.specs.Rational.{IsMiddle}
 use Rattle.ma_geom.proofs.PlaceOrder.{place_cmp_total}
 use Rattle.ma_cells.specs.Ascending.{are_ascending, ascending_of}
 use Rattle.ma_cells.specs.Bisection.{bisect}
-use Rattle.ma_cells.specs.Faces.{edges_of}
+use Rattle.ma_cells.specs.Faces.{edges_of, holds_all}
 use Rattle.ma_cells.proofs.Choices.{choices-ascend}
 use Rattle.ma_cells.proofs.Passing.{all-filter, all-flat_map, all_pass}
 use Rattle.ma_cells.proofs.SetItems.{all-ascending_of}
@@ -39,6 +39,10 @@ module _ (field : Field) (cell : List Coordinates) where
   own_edges_rise up =
       all-ascending_of edge_cmp Rises (long_edges field cell)
       (all-filter Rises (is_long_edge field) (edges_of cell) (all_pass (are_ascending place_cmp) (edges_of cell) (choices-ascend place_cmp_total 2 cell up)))
+
+-- a cell without the edge stays
+pub bisect-without : (a b m : Coordinates) (corners : List Coordinates) → holds_all corners (a ∷ b ∷ []) ≡ false → bisect a b m corners ≡ corners ∷ []
+bisect-without a b m corners h = rw h refl
 
 -- ---- one edge
 pub by_halves : (P : (List Coordinates → List (List Coordinates)) → Type 0) → P (λ c. c ∷ []) → ((m a b : Coordinates) → IsMiddle m a b → a ≢ b → P (bisect a b m)) → (edge : List Coordinates) → Rises edge → P (halves edge)

@@ -17,10 +17,10 @@ pub returns-clause-sound : goal.returns-clause-sound
 returns-clause-sound c =
     let none = ap first_overlap_of (sym c.as_slice.ensures.value) ∙ none_overlaps (first_overlap_of c.as_slice.result.now) c.in_ok-apart.ensures in
     whole_mesh IsSound (raw c.args.mesh.now) c.args.shift c.in_ok-tets.tets.items c.as_slice-2.result.now _ _ c.new.result c.as_slice-2.ensures.value c.in_ok-marks.ensures.marks c.new.ensures
-    (mesh_is_sound (raw c.args.mesh.now) c.args.shift c.in_ok-tets.tets.items c.in_ok-tets.ensures.solid none)
+    (mesh_is_sound (raw c.args.mesh.now) c.args.shift c.in_ok-tets.tets.items c.in_ok-tets.ensures.not_flat none)
 
 pub returns-clause-accepted : goal.returns-clause-accepted
 returns-clause-accepted c =
     let none = ap first_overlap_of (sym c.as_slice.ensures.value) ∙ none_overlaps (first_overlap_of c.as_slice.result.now) c.in_ok-apart.ensures in
     whole_mesh IsAcceptedMesh (raw c.args.mesh.now) c.args.shift c.in_ok-tets.tets.items c.as_slice-2.result.now _ _ c.new.result c.as_slice-2.ensures.value c.in_ok-marks.ensures.marks c.new.ensures
-    (mesh_is_accepted (raw c.args.mesh.now) c.args.shift c.in_ok-tets.tets.items c.in_ok-tets.ensures.solid none)
+    (mesh_is_accepted (raw c.args.mesh.now) c.args.shift c.in_ok-tets.tets.items c.in_ok-tets.ensures.not_flat none)

@@ -1,5 +1,5 @@
 use Rattle.std.proofs.Common.{◌∙◌, ap, None}
-use Rattle.mesh_check.specs.Lone.{lone_after}
+use Rattle.mesh_check.specs.steps.Neighbours.{lone_after}
 use Rattle.mesh_check.proofs.Alone.{lone-sorted}
 use Rattle.mesh_check.proofs.lone.lone.Goals as goal
 

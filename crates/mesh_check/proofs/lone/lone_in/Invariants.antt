@@ -1,5 +1,5 @@
 use Rattle.std.proofs.Common.{◌≡◌, ◌++◌, None, length}
-use Rattle.mesh_check.specs.Lone.{lone_after}
+use Rattle.mesh_check.specs.steps.Neighbours.{lone_after}
 use Rattle.mesh_check.proofs.lone.lone_in.Given as goal
 
 abbrev pub invariant-loop-left : goal.invariant-loop-left

@@ -8,6 +8,5 @@ use Rattle.mesh_check.proofs.marks.marks.Goals as goal
 pub returns-clause-marks : goal.returns-clause-marks
 returns-clause-marks c =
     c.mark_set.ensures
-    ∙ ap (ascending_of mark_cmp) (c.in_ok-extend_from_slice.ensures.items ∙ ap (λ xs. c.in_ok-marks.marks.items ++ xs) c.as_slice.ensures.value)
-    ∙ set-is c.in_ok-marks.marks.items (outer_marks c.args.tets.now) c.in_ok-outer.outer.items c.in_ok-outer.ensures
+    ∙ set-is (c.in_ok-marks.marks.items ++ outer_marks c.args.tets.now) c.push_outer_marks.new.marks.items c.in_ok-push_outer_marks.ensures
     ∙ ap (λ xs. ascending_of mark_cmp (xs ++ outer_marks c.args.tets.now)) c.in_ok-marks.ensures.marks

@@ -1,5 +1,5 @@
 use Rattle.std.proofs.Common.{◌∙◌, ap}
-use Rattle.mesh_check.specs.Ties.{lowest_tie}
+use Rattle.mesh_check.specs.steps.Ties.{lowest_tie}
 use Rattle.mesh_check.proofs.Tied.{lowest_tie-is, numbered_cmp-IsAntisymmetric}
 use Rattle.mesh_check.proofs.pairs.first_pair.Goals as goal
 

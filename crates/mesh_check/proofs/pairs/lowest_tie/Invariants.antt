@@ -1,5 +1,5 @@
 use Rattle.std.proofs.Common.{◌≡◌, ◌∷◌, drop}
-use Rattle.mesh_check.specs.Ties.{lower, lowest_tie}
+use Rattle.mesh_check.specs.steps.Ties.{lower, lowest_tie}
 use Rattle.mesh_check.proofs.pairs.lowest_tie.Given as goal
 
 abbrev pub invariant-loop-item : goal.invariant-loop-item

@@ -1,5 +1,0 @@
-use Rattle.ma_geom.proofs.PlaceOrder.{place_cmp-IsAntisymmetric}
-use Rattle.mesh_check.proofs.solids.first_at_one_place.Goals as goal
-
-pub returns : goal.returns
-returns c = c.first_pair.ensures place_cmp-IsAntisymmetric

@@ -1,5 +1,0 @@
-use Rattle.mesh_laws.proofs.Regions.{regions_give_whole_cover}
-use Rattle.mesh_laws.proofs.laws.regions_give_whole_cover.Goals as goal
-
-pub returns : goal.returns
-returns c = regions_give_whole_cover
