@@ -4,3 +4,4 @@ pub mod Halves
 pub mod OffFaces
 pub mod SoundOrder
 pub mod WholeFaces
+pub mod Anys

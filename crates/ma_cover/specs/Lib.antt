@@ -3,3 +3,4 @@ pub mod OnFaces
 pub mod Cover
 pub mod Laws
 pub mod Sound
+pub mod Classification

@@ -12,3 +12,4 @@ pub mod FiveSigns
 pub mod FivePlaces
 pub mod Listings
 pub mod Examples
+pub mod Adapted

@@ -4,3 +4,4 @@ pub mod Sides
 pub mod Parity
 pub mod Sounds
 pub mod FivePlaces
+pub mod Adapted

@@ -1,4 +1,5 @@
 //! Each law is the contract of a function that does nothing.
+ghost use Rattle.mesh_laws.specs.Adapted.{AdaptedComposes, SoundIsAdapted};
 ghost use Rattle.mesh_laws.specs.Covers.{CoverStaysAtMost, RegionsGiveCover, SameCoverIsHandedOn, SameCoverStaysAtMost};
 ghost use Rattle.mesh_laws.specs.FivePlaces.{FivePlacesCancel};
 ghost use Rattle.mesh_laws.specs.Parity.{HoldersAreListings, SameOddlyPassOddly};
@@ -109,4 +110,14 @@ pub fn odd_marked_is_sound()
 /// So is one that covers the same as a sound mesh.
 pub fn same_cover_stays_sound()
     ensures { SameCoverStaysSound }
+{}
+
+/// A sound mesh is adapted as it is.
+pub fn sound_is_adapted()
+    ensures { SoundIsAdapted }
+{}
+
+/// What is adapted in one stage after another is adapted.
+pub fn adapted_composes()
+    ensures { AdaptedComposes }
 {}

@@ -1,8 +1,1 @@
-pub mod Rising
-pub mod Marked
-pub mod NotFlat
-pub mod Multiples
-pub mod Gridded
-pub mod Counts
-pub mod Keeping
-pub mod Covered
+pub mod Rounds

@@ -2,7 +2,7 @@
 use Rattle.std.specs.Prelude.{◌≡◌, ℕ, zero, suc, ◌+◌, ◌-◌, ◌≤◌, ◌<◌, length}
 use Rattle.ma_cells.specs.declared.batch.Batch.{Batch}
 use Rattle.size_marks.specs.Field.{Field}
-use Rattle.one_mesh.specs.Refinement.{refine}
+use Rattle.refinement.specs.Refinement.{refine}
 
 -- the size of edges, and how many collapse passes and swap passes a round has
 pub record Plan : Type 0 where

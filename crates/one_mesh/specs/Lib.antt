@@ -1,4 +1,3 @@
-pub mod Refinement
 pub mod Adaptation
 pub mod Laws
 pub mod Holding

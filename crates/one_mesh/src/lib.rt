@@ -3,7 +3,6 @@
 
 mod fault;
 pub mod laws;
-mod pieces;
 mod store;
 
 pub use fault::OneFault;

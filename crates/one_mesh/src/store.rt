@@ -4,14 +4,15 @@ ghost use Rattle.ma_cells.specs.Ascending.{ascending_of};
 ghost use Rattle.ma_cells.specs.Grid.{mesh_is_on_grid};
 ghost use Rattle.one_mesh.specs.Holding.{set_of};
 ghost use Rattle.ma_cells.specs.Tetrahedron.{are_tetrahedra};
-ghost use Rattle.one_mesh.specs.Laws.{KeepsCover};
-ghost use Rattle.one_mesh.specs.Refinement.{refine};
+ghost use Rattle.mesh_laws.specs.Adapted.{IsAdapted, IsSoundMesh};
+ghost use Rattle.refinement.specs.Laws.{KeepsCover};
+ghost use Rattle.refinement.specs.Refinement.{refine};
 ghost use Rattle.one_mesh.specs.Rounds.{EndsRound};
 
 use crate::fault::OneFault;
-use crate::pieces::{copied, mark_pieces, tet_pieces};
-use ma_cells::{Ascending, Batch, Mesh};
+use ma_cells::{Ascending, Batch, Mesh, Tet};
 use ma_geom::Memory;
+use refinement::refined;
 use size_marks::SizeField;
 use std::alloc::Global;
 use std::marker::Model;
@@ -38,13 +39,17 @@ impl Model for OneMesh {
     ghost invariant = { λ m. are_tetrahedra m.mesh.tets ≡ true };
 }
 
-/// The mesh of all pieces.
-fn refined(alloc: Global, mesh: &Batch, field: &SizeField) -> Result<Batch, Memory>
-    ensures { IfOk result (λ pieces. pieces ≡ refine field.now mesh.now) }
+/// The tetrahedra in a list of their own.
+fn copied(alloc: Global, tets: &[Tet]) -> Result<Vec<Tet>, Memory>
+    ensures items { IfOk result (λ copies. copies.items ≡ tets.now) }
+    ensures not_flat { IfOk result (λ copies. are_tetrahedra copies.items ≡ true) }
 {
-    let tets = tet_pieces(alloc, mesh.tets.as_slice(), field)?;
-    let marks = mark_pieces(alloc, mesh.marks.as_slice(), field)?;
-    Batch::gather(tets, marks)
+    let mut copies = Vec::with_capacity(alloc, tets.len())?;
+    for tet in tets {
+        let _corners = tet.corners();
+        copies.push(*tet)?;
+    }
+    Ok(copies)
 }
 
 impl OneMesh {
@@ -85,6 +90,7 @@ impl OneMesh {
         ensures value { OnOk result (self.new ≡ record { mesh = refine field.now self.old.mesh; spent = false }) }
         ensures err { OnErr result (self.new ≡ self.old) }
         ensures cover { OnOk result (KeepsCover self.old.mesh self.new.mesh) }
+        ensures adapts { OnOk result (IsSoundMesh self.old.mesh → IsAdapted self.old.mesh self.new.mesh) }
         ensures not_flat { are_tetrahedra self.new.mesh.tets ≡ true }
         ensures grid { OnOk result ((k : ℕ) → mesh_is_on_grid (suc k) self.old.mesh ≡ true → mesh_is_on_grid k self.new.mesh ≡ true) }
     {

@@ -2,7 +2,7 @@
 ghost use Rattle.std.specs.Prelude.{◌≡◌, false, IfOk};
 
 use super::*;
-use ma_cells::{Ascending, Cell, Mark, Mesh, Tet};
+use ma_cells::{Ascending, Mesh, Tet};
 use ma_geom::Place;
 use size_marks::SizeField;
 use std::alloc::Global;
@@ -10,13 +10,6 @@ use std::test::Fail;
 
 fn place(x: i32, y: i32, z: i32) -> Result<Place, Fail> {
     Ok(Place::new(x, y, z).ok_or("a coordinate is out of range")?)
-}
-
-fn mark(corners: &[Place], elem: i32) -> Result<Mark, Fail> {
-    match Cell::new(corners) {
-        Some(cell) => Ok(Mark::new(cell, 0, elem)),
-        None => Err("the corners are no cell".into()),
-    }
 }
 
 /// The origin, and the places at 8 on the axes z, y and x.
@@ -41,13 +34,13 @@ fn middles() -> Result<[Place; 6], Fail> {
     ])
 }
 
-/// The tetrahedron of the corners with these marks.
-fn mesh_with(alloc: Global, marks: Vec<Mark>) -> Result<OneMesh, Fail>
+/// The tetrahedron of the corners.
+fn mesh(alloc: Global) -> Result<OneMesh, Fail>
     ensures { IfOk result (λ one. one.spent ≡ false) }
 {
     let tet = Tet::new(corners()?, 0, 1).ok_or("the corners are flat")?;
-    let mesh = Mesh::new(vec![in alloc; tet]?, Ascending::gather(marks), 0);
-    Ok(OneMesh::from_mesh(alloc, &mesh)?)
+    let whole = Mesh::new(vec![in alloc; tet]?, Ascending::gather(Vec::new(alloc)), 0);
+    Ok(OneMesh::from_mesh(alloc, &whole)?)
 }
 
 fn pieces(alloc: Global, one: &OneMesh) -> Result<Vec<[Place; 4]>, Fail> {
@@ -58,17 +51,9 @@ fn pieces(alloc: Global, one: &OneMesh) -> Result<Vec<[Place; 4]>, Fail> {
     Ok(pieces)
 }
 
-fn marked_cells(alloc: Global, one: &OneMesh) -> Result<Vec<(Cell, i32)>, Fail> {
-    let mut cells = Vec::new(alloc);
-    for mark in one.batch().marks.as_slice() {
-        cells.push((mark.cell(), mark.elem()))?;
-    }
-    Ok(cells)
-}
-
 #[test]
 fn a_round_cuts_a_tetrahedron_into_eight(rt: HostRuntime) -> Result<(), Fail> {
-    let mut one = mesh_with(rt.alloc(), Vec::new(rt.alloc()))?;
+    let mut one = mesh(rt.alloc())?;
     one.adapt(rt.alloc(), &SizeField::uniform(rt.alloc(), 4), 1, 0, 0)?;
     assert!(rt; !one.is_spent());
     let [o, z, y, x] = corners()?;
@@ -92,59 +77,11 @@ fn a_round_cuts_a_tetrahedron_into_eight(rt: HostRuntime) -> Result<(), Fail> {
 
 #[test]
 fn two_rounds_cut_each_of_the_eight_into_eight(rt: HostRuntime) -> Result<(), Fail> {
-    let mut one = mesh_with(rt.alloc(), Vec::new(rt.alloc()))?;
+    let mut one = mesh(rt.alloc())?;
     let field = SizeField::uniform(rt.alloc(), 2);
     one.adapt(rt.alloc(), &field, 1, 0, 0)?;
     assert!(rt; !one.is_spent());
     one.adapt(rt.alloc(), &field, 2, 0, 0)?;
     assert_eq!(rt; one.batch().tets.len(), 64);
-    Ok(())
-}
-
-#[test]
-fn marks_are_cut_with_the_tetrahedron_but_no_triangle_on_one_line(
-    rt: HostRuntime,
-) -> Result<(), Fail> {
-    let [o, z, y, x] = corners()?;
-    let [_, _, ox, zy, zx, yx] = middles()?;
-    let marks = vec![in rt.alloc();
-        mark(&[x, y, z], 9)?,
-        mark(&[o, ox, x], 9)?,
-        mark(&[o, x], 5)?,
-        mark(&[o], 3)?,
-    ]?;
-    let mut one = mesh_with(rt.alloc(), marks)?;
-    one.refine(rt.alloc(), &SizeField::uniform(rt.alloc(), 4))?;
-    assert_eq!(rt;
-        marked_cells(rt.alloc(), &one)?.as_slice(),
-        [
-            (Cell::Point(o), 3),
-            (Cell::Seg([o, ox]), 5),
-            (Cell::Seg([ox, x]), 5),
-            (Cell::Tri([o, ox, x]), 9),
-            (Cell::Tri([z, zy, zx]), 9),
-            (Cell::Tri([zy, y, yx]), 9),
-            (Cell::Tri([zy, zx, x]), 9),
-            (Cell::Tri([zy, yx, x]), 9),
-        ]
-        .as_slice()
-    );
-    Ok(())
-}
-
-#[test]
-fn a_mesh_without_long_edges_stays(rt: HostRuntime) -> Result<(), Fail> {
-    let [o, z, y, x] = corners()?;
-    let mut one = mesh_with(rt.alloc(), vec![in rt.alloc(); mark(&[x, y, z], 7)?]?)?;
-    // An edge of 12 would be the longest that isn't long.
-    one.refine(rt.alloc(), &SizeField::uniform(rt.alloc(), 8))?;
-    assert_eq!(rt;
-        pieces(rt.alloc(), &one)?.as_slice(),
-        [[o, z, y, x]].as_slice()
-    );
-    assert_eq!(rt;
-        marked_cells(rt.alloc(), &one)?.as_slice(),
-        [(Cell::Tri([z, y, x]), 7)].as_slice()
-    );
     Ok(())
 }

@@ -87,7 +87,7 @@ module _ (d : Coordinates) where
       let off : eq_by_cmp place_cmp a d ≡ false = apart a d (λ e. false≢true (sym (distinct_from t h).0 ∙ ap (λ p. has place_cmp p t) (sym e) ∙ first.0)) in
       in_order (map changed t) (subst (λ c. is_flat (cond c m d ∷ map changed t) ≡ false) off solid)
 
-  triangles : IsInherited (IsTriangle d) 3
+  pub triangles : IsInherited (IsTriangle d) 3
   triangles = record {
     count = λ t h. omega (arith, four_corners (d ∷ t) h);
     distinct = λ t h. (distinct_from t h).1;

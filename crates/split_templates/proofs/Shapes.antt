@@ -97,7 +97,7 @@ no_middle a b m s h there middle differ =
     no_more m [] e = refl
     no_more m (p ∷ rest) e = absurd (omega arith)
 
-segments : IsInherited IsSegment 2
+pub segments : IsInherited IsSegment 2
 segments = record {
   count = λ s h. h.1;
   distinct = λ s h. distinct-ascending s h.0;

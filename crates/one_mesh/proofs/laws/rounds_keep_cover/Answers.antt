@@ -1,4 +1,4 @@
-use Rattle.one_mesh.proofs.Covered.{rounds_keep_cover}
+use Rattle.one_mesh.proofs.Rounds.{rounds_keep_cover}
 use Rattle.one_mesh.proofs.laws.rounds_keep_cover.Goals as goal
 
 pub returns : goal.returns

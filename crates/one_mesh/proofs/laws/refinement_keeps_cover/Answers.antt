@@ -1,5 +1,0 @@
-use Rattle.one_mesh.proofs.Covered.{refinement_keeps_cover}
-use Rattle.one_mesh.proofs.laws.refinement_keeps_cover.Goals as goal
-
-pub returns : goal.returns
-returns c = refinement_keeps_cover

@@ -1,0 +1,4 @@
+//! Laws of refinement for sound meshes.
+#![tactic(auto)]
+
+pub mod laws;

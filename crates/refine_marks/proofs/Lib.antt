@@ -1,0 +1,4 @@
+pub mod Parted
+pub mod OnHalves
+pub mod CellsKept
+pub mod Classified

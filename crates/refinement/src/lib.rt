@@ -1,0 +1,10 @@
+//! Refinement of a mesh: its tetrahedra and marks in pieces at their own long edges.
+#![tactic(auto)]
+
+pub mod laws;
+mod pieces;
+
+pub use pieces::refined;
+
+#[cfg(test)]
+mod tests;
