@@ -1,11 +1,11 @@
--- The mesh of an accepted job has tetrahedra that aren't flat, its marks are on its grid, and its rounds keep its geometry; so does the mesh whose text a run that is done has stored.
+-- The mesh of an accepted job is sound and on its grid, and its rounds keep its geometry; so does the mesh whose text a run that is done has stored.
 use Rattle.std.proofs.Common.{◌≡◌, ℕ, ◌+◌, ◌-◌, ◌≤◌, Bool, true, false, cond, List, [], ◌∷◌, Some, None, refl, sym, subst, arith}
 use Rattle.std.specs.Prelude.{IfSome, Option, Result, Ok, Err, nat_le}
 use Rattle.std.specs.FinMap.{get, insert}
 use Rattle.std.specs.List.{list_all}
 use Rattle.std.proofs.lemmas.Bool.Decides.{nat_tests}
 use Rattle.ma_cells.specs.Meshes.{MarkedMesh}
-use Rattle.ma_cells.specs.Tetrahedron.{Tetrahedron, are_corners, tet_cmp, are_tetrahedra}
+use Rattle.ma_cells.specs.Tetrahedron.{Tetrahedron, are_corners, tet_cmp}
 use Rattle.ma_cells.specs.Ascending.{ascending_of}
 use Rattle.ma_cells.specs.declared.batch.Batch.{Batch}
 use Rattle.ma_io.specs.Files.{Files}
@@ -16,17 +16,13 @@ use Rattle.msh_read.specs.Raw.{Raw}
 use Rattle.ma_cells.specs.Grid.{are_on_grid, grid_of, is_on_grid, marks_are_on_grid, mesh_is_on_grid}
 use Rattle.mesh_check.proofs.GreatestGrid.{grid_is_greatest}
 use Rattle.one_mesh.specs.Holding.{set_of}
-use Rattle.ma_cover.specs.Cover.{whole_cover}
-use Rattle.ma_cover.specs.Sound.{IsSound}
 use Rattle.ma_cover.proofs.SoundOrder.{sound_in_any_order}
 use Rattle.ma_cells.proofs.Permutations.{listed_once-permutes}
-use Rattle.one_mesh.proofs.Keeping.{as_few}
-use Rattle.one_mesh.proofs.Covered.{rounds_keep_cover}
-use Rattle.one_mesh.proofs.Gridded.{rounds_halve_the_grid}
 use Rattle.ma_cells.proofs.Passing.{all_pass, test_all}
-use Rattle.one_mesh.proofs.NotFlat.{rounds_are_not_flat}
+use Rattle.mesh_laws.specs.Adapted.{IsSoundMesh}
+use Rattle.one_mesh.proofs.Rounds.{rounds_adapt, rounds_halve_the_grid}
 use Rattle.size_marks.specs.Field.{Field}
-use Rattle.one_mesh.specs.Adaptation.{Plan, adapted}
+use Rattle.one_mesh.specs.Adaptation.{Plan}
 use Rattle.msh_read.specs.Steps.{◌>>=◌}
 use Rattle.mesh_check.proofs.Numbered.{then_ok}
 use Rattle.meshadapt.specs.Acts.{PutLine, Output, acts, final, final_text, outputs}
@@ -44,9 +40,9 @@ use Rattle.mesh_check.specs.Laws.{IsFair}
 use Rattle.mesh_check.proofs.Fair.{accepted_is_fair}
 use Rattle.ma_cells.proofs.SetItems.{all-ascending_of}
 
--- no tetrahedron is flat, it is sound, and all places are on the grid
+-- it is sound, and all places are on the grid
 abbrev IsFine : Inputs → Type 0
-IsFine inputs = (are_tetrahedra inputs.mesh.tets ≡ true) × IsSound inputs.mesh.tets inputs.mesh.marks × (mesh_is_on_grid inputs.grid inputs.mesh ≡ true)
+IsFine inputs = IsSoundMesh inputs.mesh × (mesh_is_on_grid inputs.grid inputs.mesh ≡ true)
 
 -- ---- the mesh of a file
 in_set : (test : Tetrahedron → Bool) (tets : List Tetrahedron) → list_all test tets ≡ true → list_all test (ascending_of tet_cmp tets) ≡ true
@@ -64,8 +60,11 @@ on_its_grid tets = (grid_is_greatest tets).passes
 
 set_is_fine : (field : Field) (names : List GroupName) (mesh : MarkedMesh) → IsFair mesh → IsFine (inputs_with field names mesh)
 set_is_fine field names mesh fair = (
-  in_set (λ tet. are_corners tet.corners) mesh.tets fair.not_flat,
-  sound_in_any_order mesh.tets (ascending_of tet_cmp mesh.tets) mesh.marks (listed_once-permutes mesh.tets fair.listed) fair.sound,
+  record {
+    tetrahedra = in_set (λ tet. are_corners tet.corners) mesh.tets fair.not_flat;
+    cells = fair.cells;
+    sound = sound_in_any_order mesh.tets (ascending_of tet_cmp mesh.tets) mesh.marks (listed_once-permutes mesh.tets fair.listed) fair.sound;
+  },
   on_grid (grid_of mesh.tets) mesh fair (on_its_grid mesh.tets),
 )
 
@@ -101,17 +100,13 @@ pub rounds_keep_geometry : RoundsKeepGeometry
 rounds_keep_geometry files job inputs round e few =
     let mesh : Batch = inputs.mesh in
     let plan : Plan = plan_of job inputs in
-    let new : Batch = adapted plan round mesh in
     let found = found_fine (field_of job) job.rounds (raw_in_file (get files job.mesh)) inputs e in
     let fine = found.0 in
     let left : (inputs.grid - round) + round ≡ inputs.grid = let most = found.1 in omega arith in
-    let kept = rounds_keep_cover round plan mesh fine.0 in
     record {
-      sound = fine.1;
-      cover = λ phys elem p old off. (kept p old off (fine.1.once p old)).each phys elem;
-      new_once = λ p old off. as_few (whole_cover p new.tets) (whole_cover p mesh.tets) (kept p old off (fine.1.once p old)).whole (fine.1.once p old);
-      not_flat = rounds_are_not_flat round plan mesh fine.0;
-      grid = rounds_halve_the_grid (inputs.grid - round) round plan mesh (subst (λ k. mesh_is_on_grid k mesh ≡ true) (sym left) fine.2);
+      sound = fine.0;
+      adapted = rounds_adapt round plan mesh fine.0;
+      grid = rounds_halve_the_grid (inputs.grid - round) round plan mesh (subst (λ k. mesh_is_on_grid k mesh ≡ true) (sym left) fine.1);
     }
 
 -- ---- a run

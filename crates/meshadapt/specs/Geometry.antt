@@ -1,13 +1,9 @@
 -- What the rounds of a job keep of the geometry of the mesh in its file.
-use Rattle.std.specs.Prelude.{◌≡◌, ℕ, ◌-◌, ◌≤◌, ℤ, true, Option, Some, Ok, IfSome}
+use Rattle.std.specs.Prelude.{◌≡◌, ℕ, ◌-◌, ◌≤◌, true, Option, Some, Ok, IfSome}
 use Rattle.std.specs.FinMap as map
-use Rattle.ma_geom.specs.Rational.{Rational}
 use Rattle.ma_cells.specs.Grid.{mesh_is_on_grid}
-use Rattle.ma_cells.specs.Tetrahedron.{are_tetrahedra}
 use Rattle.ma_cells.specs.declared.batch.Batch.{Batch}
-use Rattle.ma_cover.specs.Cover.{cover, whole_cover}
-use Rattle.ma_cover.specs.OnFaces.{IsOffFaces}
-use Rattle.ma_cover.specs.Sound.{IsSound}
+use Rattle.mesh_laws.specs.Adapted.{IsAdapted, IsSoundMesh}
 use Rattle.ma_io.specs.Files.{Files}
 use Rattle.msh_write.specs.Text.{text_of}
 use Rattle.one_mesh.specs.Adaptation.{adapted}
@@ -18,16 +14,12 @@ use Rattle.meshadapt.specs.Printed.{mesh_name}
 use Rattle.meshadapt.specs.Verdict.{Inputs, plan_of, verdict}
 use Rattle.meshadapt.specs.Words.{Job}
 
--- Of the mesh that is accepted for a job, and of a new one that so many rounds made of it. Points are taken off the closed faces of both
+-- Of the mesh that is accepted for a job, and of a new one that so many rounds made of it
 pub record KeepsGeometry (inputs : Inputs) (rounds : ℕ) (new : Batch) : Type 0 where
-  -- the file's mesh is conforming, and no rational point off its closed faces is within two of its tetrahedra
-  pub sound : IsSound inputs.mesh.tets inputs.mesh.marks
-  -- each region has a point within one of its tetrahedra exactly where it had
-  pub cover : (phys elem : ℤ) (p : Rational) → IsOffFaces p inputs.mesh.tets → IsOffFaces p new.tets → cover phys elem p new.tets ≡ cover phys elem p inputs.mesh.tets
-  -- and it is within at most one tetrahedron of the new mesh
-  pub new_once : (p : Rational) → IsOffFaces p inputs.mesh.tets → IsOffFaces p new.tets → whole_cover p new.tets ≤ 1
-  -- none of its tetrahedra is flat
-  pub not_flat : are_tetrahedra new.tets ≡ true
+  -- the file's mesh is conforming, no rational point off its closed faces is within two of its tetrahedra, and none of them is flat
+  pub sound : IsSoundMesh inputs.mesh
+  -- so is the new one; it covers the same, region by region, off the closed faces of both; and with each tag the same points lie on marked triangles, on marked segments and on marked points
+  pub adapted : IsAdapted inputs.mesh new
   -- each round has halved the grid at most once
   pub grid : mesh_is_on_grid (inputs.grid - rounds) new ≡ true
 
