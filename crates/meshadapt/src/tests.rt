@@ -179,35 +179,64 @@ fn a_line_past_a_node_is_loose(rt: HostRuntime) -> Result<(), Fail> {
     Ok(())
 }
 
+/// Runs over the tetrahedron, where the calls of these numbers fail, which is to end so.
+fn ends_so(
+    rt: &impl Abort,
+    alloc: Global,
+    words: &str,
+    fails: (&[u64], &[u64], &[u64]),
+    code: u8,
+    lines: &[u8],
+) -> Result<Left, Fail> {
+    let left = run_with(rt, alloc, words, TETRAHEDRON.as_bytes(), fails)?;
+    assert_eq!(rt; left.status.code(), code);
+    assert_eq!(rt; left.sink.bytes(), lines);
+    Ok(left)
+}
+
+const MESH_LINE: &[u8] = b"mesh: tets 1 nodes 4 marks 0 loose 0\n";
+
 #[test]
-fn a_fault_ends_the_run_where_it_comes(rt: HostRuntime) -> Result<(), Fail> {
-    let file = TETRAHEDRON.as_bytes();
-    let fetch = run_with(&rt, rt.alloc(), WORDS, file, (&[1], &[], &[]))?;
-    assert_eq!(rt; fetch.status.code(), 2);
-    assert_eq!(rt; fetch.sink.bytes(), b"read fault: m.msh\n".as_slice());
-    assert!(rt; fetch.stored().is_none());
-    let store = run_with(&rt, rt.alloc(), WORDS, file, (&[], &[1], &[]))?;
-    assert_eq!(rt; store.status.code(), 3);
+fn a_fetch_that_fails_is_a_read_fault(rt: HostRuntime) -> Result<(), Fail> {
+    let fails = ([1].as_slice(), [].as_slice(), [].as_slice());
+    let left = ends_so(&rt, rt.alloc(), WORDS, fails, 2, b"read fault: m.msh\n")?;
+    assert!(rt; left.stored().is_none());
+    Ok(())
+}
+
+#[test]
+fn a_store_that_fails_is_a_write_fault(rt: HostRuntime) -> Result<(), Fail> {
+    let fails = ([].as_slice(), [1].as_slice(), [].as_slice());
+    let lines = b"mesh: tets 1 nodes 4 marks 0 loose 0\nwrite fault: x.msh\n";
+    let left = ends_so(&rt, rt.alloc(), WORDS, fails, 3, lines)?;
+    assert!(rt; left.stored().is_none());
+    Ok(())
+}
+
+#[test]
+fn nothing_follows_a_first_line_that_cannot_be_put(rt: HostRuntime) -> Result<(), Fail> {
+    let fails = ([].as_slice(), [].as_slice(), [1].as_slice());
+    let left = ends_so(&rt, rt.alloc(), ONE_ROUND, fails, 3, b"")?;
+    assert!(rt; left.stored().is_none());
+    Ok(())
+}
+
+#[test]
+fn nothing_follows_a_round_whose_line_cannot_be_put(rt: HostRuntime) -> Result<(), Fail> {
+    let fails = ([].as_slice(), [].as_slice(), [2].as_slice());
+    let left = ends_so(&rt, rt.alloc(), ONE_ROUND, fails, 3, MESH_LINE)?;
+    assert!(rt; left.stored().is_none());
+    Ok(())
+}
+
+#[test]
+fn a_last_line_that_cannot_be_put_leaves_the_file(rt: HostRuntime) -> Result<(), Fail> {
+    let fails = ([].as_slice(), [].as_slice(), [2].as_slice());
+    let left = ends_so(&rt, rt.alloc(), WORDS, fails, 3, MESH_LINE)?;
     assert_eq!(rt;
-        store.sink.bytes(),
-        b"mesh: tets 1 nodes 4 marks 0 loose 0\nwrite fault: x.msh\n".as_slice()
+        left.stored().ok_or("nothing stored")?,
+        TETRAHEDRON.as_bytes()
     );
-    assert!(rt; store.stored().is_none());
-    let first_line = run_with(&rt, rt.alloc(), WORDS, file, (&[], &[], &[1]))?;
-    assert_eq!(rt; first_line.status.code(), 3);
-    assert_eq!(rt; first_line.sink.bytes(), b"".as_slice());
-    assert!(rt; first_line.stored().is_none());
-    let round_line = run_with(&rt, rt.alloc(), ONE_ROUND, file, (&[], &[], &[2]))?;
-    assert_eq!(rt; round_line.status.code(), 3);
-    assert_eq!(rt;
-        round_line.sink.bytes(),
-        b"mesh: tets 1 nodes 4 marks 0 loose 0\n".as_slice()
-    );
-    let last_line = run_with(&rt, rt.alloc(), WORDS, file, (&[], &[], &[2]))?;
-    assert_eq!(rt; last_line.status.code(), 3);
-    assert_eq!(rt; last_line.stored().ok_or("nothing stored")?, file);
-    let refusal = run_with(&rt, rt.alloc(), WORDS, b"", (&[], &[], &[1]))?;
-    assert_eq!(rt; refusal.status.code(), 4);
     Ok(())
 }
 
