@@ -1,4 +1,4 @@
--- The linear forms that may part two tetrahedra, which are given by their corners.
+-- The linear forms that may separate two tetrahedra, which are given by their corners.
 use Rattle.std.specs.Prelude.{pos, List, [], ◌∷◌, ◌++◌, map}
 use Rattle.std.specs.List.{flat_map}
 use Rattle.ma_geom.specs.Coordinates.{Coordinates}

@@ -53,7 +53,7 @@ fn zs(tet: &Tet) -> [i128; 4]
     [a.z() as i128, b.z() as i128, c.z() as i128, d.z() as i128]
 }
 
-/// Whether a coordinate parts them.
+/// Whether a coordinate separates them.
 fn are_apart_along_an_axis(a: &Tet, b: &Tet) -> bool
     ensures { result ≡ list_any (λ n. is_apart n a.now.corners b.now.corners) axes }
 {
@@ -68,7 +68,7 @@ fn values(n: Form, tet: &Tet) -> [i128; 4]
     [n.at(a), n.at(b), n.at(c), n.at(d)]
 }
 
-/// Whether this form parts them.
+/// Whether this form separates them.
 fn is_apart(n: Form, a: &Tet, b: &Tet) -> bool
     ensures { result ≡ is_apart n a.now.corners b.now.corners }
 {
@@ -113,49 +113,49 @@ fn steps(tet: &Tet) -> [Vector; 6]
     ]
 }
 
-/// Whether one of these forms parts them.
+/// Whether one of these forms separates them.
 fn are_apart_by(forms: &[Form], a: &Tet, b: &Tet) -> bool
     ensures { result ≡ list_any (λ n. is_apart n a.now.corners b.now.corners) forms.now }
 {
     forms.iter().any(|n| is_apart(*n, a, b))
 }
 
-/// Whether the cross product of `u` with one of the others parts them.
+/// Whether the cross product of `u` with one of the others separates them.
 fn are_apart_by_product(u: &Vector, vs: &[Vector], a: &Tet, b: &Tet) -> bool
     ensures { result ≡ list_any (λ v. is_apart (cross u.now v) a.now.corners b.now.corners) vs.now }
 {
     vs.iter().any(|v| is_apart(u.cross(v), a, b))
 }
 
-/// Whether the cross product of a vector of the one list with one of the other parts them.
+/// Whether the cross product of a vector of the one list with one of the other separates them.
 fn are_apart_by_products(us: &[Vector], vs: &[Vector], a: &Tet, b: &Tet) -> bool
     ensures { result ≡ list_any (λ u. list_any (λ v. is_apart (cross u v) a.now.corners b.now.corners) vs.now) us.now }
 {
     us.iter().any(|u| are_apart_by_product(u, vs, a, b))
 }
 
-/// Whether the normal of a face parts them.
+/// Whether the normal of a face separates them.
 fn are_apart_by_faces(a: &Tet, b: &Tet) -> bool
     ensures { result ≡ list_any (λ n. is_apart n a.now.corners b.now.corners) (normals_of a.now.corners ++ normals_of b.now.corners) }
 {
     are_apart_by(&normals(a), a, b) || are_apart_by(&normals(b), a, b)
 }
 
-/// Whether the cross product of an edge of the one with an edge of the other parts them.
+/// Whether the cross product of an edge of the one with an edge of the other separates them.
 fn are_apart_by_edges(a: &Tet, b: &Tet) -> bool
     ensures { result ≡ list_any (λ n. is_apart n a.now.corners b.now.corners) (products (steps_of a.now.corners) (steps_of b.now.corners)) }
 {
     are_apart_by_products(&steps(a), &steps(b), a, b)
 }
 
-/// Whether a form other than the coordinates parts them.
+/// Whether a form other than the coordinates separates them.
 fn are_apart_aslant(a: &Tet, b: &Tet) -> bool
     ensures { result ≡ list_any (λ n. is_apart n a.now.corners b.now.corners) (slants a.now.corners b.now.corners) }
 {
     are_apart_by_faces(a, b) || are_apart_by_edges(a, b)
 }
 
-/// Whether a linear form parts two tetrahedra: a coordinate, the normal of a face, or the cross
+/// Whether a linear form separates two tetrahedra: a coordinate, the normal of a face, or the cross
 /// product of an edge of the one with an edge of the other. They may touch. Exact, and takes no
 /// memory.
 pub fn separated(a: &Tet, b: &Tet) -> bool
