@@ -5,3 +5,4 @@ pub mod OffFaces
 pub mod SoundOrder
 pub mod WholeFaces
 pub mod Anys
+pub mod ClassifiedExamples

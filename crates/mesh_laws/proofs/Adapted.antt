@@ -3,6 +3,7 @@ use Rattle.std.proofs.Common.{refl}
 use Rattle.ma_cells.specs.declared.batch.Batch.{Batch}
 use Rattle.mesh_laws.specs.Adapted.{AdaptedComposes, IsSoundMesh, SoundIsAdapted}
 use Rattle.mesh_laws.specs.Points.{NoneIsFlat}
+use Rattle.mesh_laws.proofs.Examples.{marks, whole, whole_is_sound, whole_tetrahedra}
 use Rattle.mesh_laws.proofs.MovedOff.{same_cover_is_handed_on}
 use Rattle.mesh_laws.proofs.Sounds.{tetrahedra_not_flat}
 
@@ -21,3 +22,7 @@ adapted_composes l m n is first second = record {
       let two = second.classification d phys elem p point in
       ((λ h. two.0 (one.0 h)), (λ h. one.1 (two.1 h)));
 }
+
+-- a tetrahedron with marked faces is a sound mesh
+pub whole_is_sound_mesh : IsSoundMesh (record { tets = whole; marks = marks })
+whole_is_sound_mesh = record { tetrahedra = whole_tetrahedra; cells = refl; sound = whole_is_sound }

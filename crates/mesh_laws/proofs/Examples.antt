@@ -52,7 +52,7 @@ x = at (pos 2) (pos 0) (pos 0)
 abbrev tet : List Coordinates → Tetrahedron
 tet corners = record { corners = corners; phys = pos 1; elem = pos 1 }
 
-abbrev whole : List Tetrahedron
+abbrev pub whole : List Tetrahedron
 whole = tet (o ∷ z ∷ y ∷ x ∷ []) ∷ []
 
 abbrev halves : List Tetrahedron
@@ -61,14 +61,14 @@ halves = tet (z ∷ y ∷ m ∷ x ∷ []) ∷ tet (o ∷ z ∷ y ∷ m ∷ []) �
 abbrev marks_on : List (List Coordinates) → List CellMark
 marks_on faces = map (λ face. record { cell = Tri face; phys = pos 2; elem = pos 7 }) faces
 
-abbrev marks : List CellMark
+abbrev pub marks : List CellMark
 marks = marks_on (faces_of (o ∷ z ∷ y ∷ x ∷ []))
 
 -- all faces of the halves but the one between them
 abbrev half_marks : List CellMark
 half_marks = marks_on ((z ∷ y ∷ x ∷ []) ∷ (z ∷ m ∷ x ∷ []) ∷ (y ∷ m ∷ x ∷ []) ∷ (o ∷ z ∷ y ∷ []) ∷ (o ∷ z ∷ m ∷ []) ∷ (o ∷ y ∷ m ∷ []) ∷ [])
 
-whole_tetrahedra : are_tetrahedra whole ≡ true
+pub whole_tetrahedra : are_tetrahedra whole ≡ true
 unfolding vol6
 whole_tetrahedra = refl
 
