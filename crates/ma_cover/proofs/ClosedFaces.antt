@@ -20,7 +20,7 @@ use Rattle.ma_cover.specs.Located.{IsOnFaceOf}
 use Rattle.ma_cover.specs.OnFaces.{IsOffFacesOf, IsOnTriangle}
 use Rattle.ma_cover.specs.steps.Closed.{is_in_closed, is_not_across, is_on_face}
 use Rattle.ma_cover.proofs.OffFaces.{all_four, inside_is_off_faces, side_of_mean}
-use Rattle.ma_cover.proofs.Weights.{by_four, not_negative, on_face, some_a, some_b, some_c, weight_bc, weight_turn}
+use Rattle.ma_cover.proofs.CornerWeights.{by_four, not_negative, on_face, some_a, some_b, some_c, weight_bc, weight_turn}
 
 all_true : (s t u v : Bool) → s ≡ true → t ≡ true → u ≡ true → v ≡ true → (s && t && u && v) ≡ true
 all_true s t u v e f g h = rw (e, f, g, h) refl

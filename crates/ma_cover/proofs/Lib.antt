@@ -1,8 +1,9 @@
 pub mod ClosedFaces
+pub mod CornerWeights
 pub mod Covers
 pub mod Exchanges
 pub mod Halves
 pub mod OffFaces
+pub mod OneLocation
 pub mod SoundOrder
-pub mod Weights
 pub mod WholeFaces

@@ -1,4 +1,4 @@
--- A point as a mean of the corners of a tetrahedron: within it all four weights are positive, and on a face one is zero and none negative.
+-- A point as a mean of the corners of a tetrahedron, each weighed by how far the point is on its side of the face across from it. On a face one weight is zero and none negative.
 use Rattle.std.proofs.Common.{◌≡◌, ◌≢◌, ◌⊎◌, inl, inr, ⊎_elim, subst, true, false, List, [], ◌∷◌, refl, sym, ap, ap₂, ◌∙◌, arith}
 use Rattle.std.specs.Prelude.{ℤ, pos, ◌+ℤ◌, ◌-ℤ◌, ◌*ℤ◌, neg_ℤ, ◌<ℤ◌, ◌≤ℤ◌}
 use Rattle.std.specs.Ordering.{int_eq}
