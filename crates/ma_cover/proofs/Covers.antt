@@ -1,26 +1,22 @@
 -- Bisection keeps cover, of one tetrahedron and of a list.
-use Rattle.std.proofs.Common.{◌≡◌, ◌≢◌, ℕ, ◌+◌, Bool, true, false, cond, ◌&&◌, ◌||◌, List, [], ◌∷◌, ◌++◌, refl, sym, ap, ap₂, subst, ◌∙◌}
+use Rattle.std.proofs.Common.{◌≡◌, ◌≢◌, ℕ, ◌+◌, Bool, true, false, cond, ◌&&◌, List, [], ◌∷◌, ◌++◌, refl, sym, ap₂, ◌∙◌}
 use Rattle.std.specs.Prelude.{ℤ, pos, map}
 use Rattle.std.specs.List.{AllByRecursion, count_by, flat_map, list_all}
 use Rattle.std.specs.List.Sorted.{IsPermutation}
-use Rattle.std.specs.Ordering.{eq_by_cmp, int_eq}
 use Rattle.std.proofs.lemmas.Bool.{and_parts}
 use Rattle.std.proofs.lemmas.List.Sums.{sum_by-append}
-use Rattle.ma_geom.specs.Coordinates.{Coordinates, place_cmp}
+use Rattle.ma_geom.specs.Coordinates.{Coordinates}
 use Rattle.ma_geom.specs.Rational.{Rational, IsMiddle}
 use Rattle.ma_geom.specs.Volume.{vol6}
-use Rattle.ma_cells.specs.Ascending.{ascending_of, has}
 use Rattle.ma_cells.specs.Bisection.{bisect, bisect_tet, replaced}
 use Rattle.ma_cells.specs.Faces.{holds_all}
 use Rattle.ma_cells.specs.Tetrahedron.{Tetrahedron, are_corners}
-use Rattle.ma_cells.proofs.Bisections.{bisect-with}
 use Rattle.ma_cover.specs.Laws.{BisectionKeepsCover}
 use Rattle.ma_cover.specs.Inside.{is_inside}
 use Rattle.ma_cover.specs.OnFaces.{IsOffFaces, IsOffFacesOf, IsOffTriangle}
 use Rattle.ma_cover.proofs.Exchanges.{inside_in_any_order}
 use Rattle.ma_cover.proofs.Halves.{halves_keep_cover}
-use Rattle.ma_cells.proofs.Permutations.{ascending_of-permutes, has-permutation, tied}
-use Rattle.ma_cells.proofs.Pieces.{distinct_corners, has_edge, replaced_first, replaced_second}
+use Rattle.ma_cells.proofs.Pieces.{has_edge, replaced_first, replaced_second}
 use Rattle.ma_cover.proofs.WholeFaces.{off_between}
 
 -- ---- off the faces of each in a list

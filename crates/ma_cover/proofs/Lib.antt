@@ -1,7 +1,10 @@
+pub mod ClosedFaces
+pub mod CornerWeights
 pub mod Covers
 pub mod Exchanges
 pub mod Halves
 pub mod OffFaces
+pub mod OneLocation
 pub mod SoundOrder
 pub mod WholeFaces
 pub mod Anys

@@ -6,7 +6,7 @@ use Rattle.std.proofs.lemmas.Int.{ints}
 use Rattle.ma_geom.specs.Coordinates.{Coordinates}
 use Rattle.ma_geom.specs.Rational.{Rational, side}
 use Rattle.ma_geom.specs.Volume.{vol6}
-use Rattle.ma_geom.proofs.Reified.{Quadruple, place, point, places, point_and_places, side'}
+use Rattle.ma_geom.proofs.Reified.{Quadruple, place, point, places, point_and_places, side', vol6'}
 use Rattle.ma_geom.proofs.Ring.{Expr, con, ◌⊕◌, ◌⊗◌, ring}
 use Rattle.ma_cover.specs.Inside.{are_alike, is_beside, is_inside}
 use Rattle.ma_cover.specs.OnFaces.{IsOffFacesOf, IsOffTriangle, IsOnTriangle}
@@ -50,12 +50,37 @@ side_of_sum i j k a b c =
       w = (w.x ⊕ w.y) ⊕ w.z;
     })) (con (pos 0)) tt
 
+-- at any plane, by those of the places
+side_at_sum : (i j k : ℤ) (u v w a b c : Coordinates) → side u v w (sum_of i j k a b c) ≡ ((i *ℤ vol6 u v w a) +ℤ (j *ℤ vol6 u v w b)) +ℤ (k *ℤ vol6 u v w c)
+unfolding side vol6
+side_at_sum i j k u v w a b c =
+    let U = place 0 in
+    let V = place 1 in
+    let W = place 2 in
+    let A = place 3 in
+    let B = place 4 in
+    let C = place 5 in
+    let n = place 6 in
+    ring (places (u ∷ v ∷ w ∷ a ∷ b ∷ c ∷ numbers i j k ∷ [])) (side' U V W (record {
+      x = ((n.x ⊗ A.x) ⊕ (n.y ⊗ B.x)) ⊕ (n.z ⊗ C.x);
+      y = ((n.x ⊗ A.y) ⊕ (n.y ⊗ B.y)) ⊕ (n.z ⊗ C.y);
+      z = ((n.x ⊗ A.z) ⊕ (n.y ⊗ B.z)) ⊕ (n.z ⊗ C.z);
+      w = (n.x ⊕ n.y) ⊕ n.z;
+    })) (((n.x ⊗ vol6' U V W A) ⊕ (n.y ⊗ vol6' U V W B)) ⊕ (n.z ⊗ vol6' U V W C)) tt
+
 zero_factor : (n s : ℤ) → pos 0 <ℤ n → n *ℤ s ≡ pos 0 → s ≡ pos 0
 zero_factor (pos zero) s h e = absurd (omega (arith, ints))
 zero_factor (negsuc m) s h e = absurd (omega (arith, ints))
 zero_factor (pos (suc m)) (pos zero) h e = refl
 zero_factor (pos (suc m)) (pos (suc n)) h e = absurd (omega (arith, ints))
 zero_factor (pos (suc m)) (negsuc n) h e = absurd (omega (arith, ints))
+
+-- the side of a point on a triangle, at any plane
+pub side_of_mean : (u v w a b c : Coordinates) (p : Rational) (on : IsOnTriangle a b c p)
+    → on.n *ℤ side u v w p ≡ ((on.i *ℤ vol6 u v w a) +ℤ (on.j *ℤ vol6 u v w b)) +ℤ (on.k *ℤ vol6 u v w c)
+side_of_mean u v w a b c p on =
+    let is : times on.n p ≡ sum_of on.i on.j on.k a b c = λ t. record { x = on.x t; y = on.y t; z = on.z t; w = on.w t } in
+    sym (side_times on.n u v w p) ∙ ap (side u v w) is ∙ side_at_sum on.i on.j on.k u v w a b c
 
 pub on_side : (a b c : Coordinates) (p : Rational) → IsOnTriangle a b c p → side a b c p ≡ pos 0
 on_side a b c p on =

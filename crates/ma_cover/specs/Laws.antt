@@ -8,8 +8,10 @@ use Rattle.ma_cells.specs.Cells.{CellMark}
 use Rattle.ma_cells.specs.Tetrahedron.{Tetrahedron, are_corners, are_tetrahedra}
 use Rattle.ma_cover.specs.Cover.{cover_by}
 use Rattle.ma_cover.specs.Inside.{is_inside}
+use Rattle.ma_cover.specs.Located.{IsLocated}
 use Rattle.ma_cover.specs.OnFaces.{IsOffFaces, IsOffFacesOf}
 use Rattle.ma_cover.specs.Sound.{IsSound}
+use Rattle.ma_cover.specs.declared.locations.Found.{Found}
 
 -- a point is within a tetrahedron whatever the order in which its corners are listed
 abbrev pub OrderOfCornersIsFree : Type 0
@@ -38,3 +40,7 @@ OffPiecesIsOffWhole = (p : Rational) (m a b : Coordinates) (corners : List Coord
 -- a mesh is sound in whatever order its tetrahedra are listed
 abbrev pub SoundInAnyOrder : Type 0
 SoundInAnyOrder = (tets others : List Tetrahedron) (marks : List CellMark) → IsPermutation tets others → IsSound tets marks → IsSound others marks
+
+-- one thing is found of a point
+abbrev pub LocationIsOne : Type 0
+LocationIsOne = (tets : List Tetrahedron) (p : Rational) (found other : Found) → IsLocated tets p found → IsLocated tets p other → found ≡ other

@@ -1,5 +1,5 @@
 //! Laws of inside, cover and soundness, each the contract of a function that does nothing.
-ghost use Rattle.ma_cover.specs.Laws.{BisectionKeepsCover, InsideIsOffFaces, OffPiecesIsOffWhole, OrderOfCornersIsFree, PiecesAreTetrahedra, SoundInAnyOrder};
+ghost use Rattle.ma_cover.specs.Laws.{BisectionKeepsCover, InsideIsOffFaces, LocationIsOne, OffPiecesIsOffWhole, OrderOfCornersIsFree, PiecesAreTetrahedra, SoundInAnyOrder};
 
 /// The order of the corners doesn't matter to what is within a tetrahedron.
 pub fn order_of_corners_is_free()
@@ -29,4 +29,9 @@ pub fn off_pieces_is_off_whole()
 /// Soundness doesn't depend on the order of the tetrahedra.
 pub fn sound_in_any_order()
     ensures { SoundInAnyOrder }
+{}
+
+/// What is found of a point is one thing: the relation that `locate` keeps has one answer.
+pub fn location_is_one()
+    ensures { LocationIsOne }
 {}
