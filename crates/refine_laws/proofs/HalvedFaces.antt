@@ -122,16 +122,16 @@ seven r s t u v w x =
 
 -- ---- corners that span a volume differ
 differ_ac : (a b c d : Coordinates) → vol6 a b c d ≢ pos 0 → a ≢ c
-differ_ac a b c d solid e = solid (ap (λ t. vol6 a b t d) (sym e) ∙ vol6_same_ac a b d)
+differ_ac a b c d spans e = spans (ap (λ t. vol6 a b t d) (sym e) ∙ vol6_same_ac a b d)
 
 differ_ad : (a b c d : Coordinates) → vol6 a b c d ≢ pos 0 → a ≢ d
-differ_ad a b c d solid e = solid (ap (λ t. vol6 a b c t) (sym e) ∙ vol6_same_ad a b c)
+differ_ad a b c d spans e = spans (ap (λ t. vol6 a b c t) (sym e) ∙ vol6_same_ad a b c)
 
 differ_bc : (a b c d : Coordinates) → vol6 a b c d ≢ pos 0 → b ≢ c
-differ_bc a b c d solid e = solid (ap (λ t. vol6 a b t d) (sym e) ∙ vol6_same_bc a b d)
+differ_bc a b c d spans e = spans (ap (λ t. vol6 a b t d) (sym e) ∙ vol6_same_bc a b d)
 
 differ_bd : (a b c d : Coordinates) → vol6 a b c d ≢ pos 0 → b ≢ d
-differ_bd a b c d solid e = solid (ap (λ t. vol6 a b c t) (sym e) ∙ vol6_same_bd a b c)
+differ_bd a b c d spans e = spans (ap (λ t. vol6 a b c t) (sym e) ∙ vol6_same_bd a b c)
 
 -- ---- what is chosen has no other places
 abbrev pub IsWithin : List Coordinates → List Coordinates → Type 0

@@ -118,8 +118,8 @@ module _ (field : Field) where
 
 -- ---- the corners of a face aren't on one line
 pub faces_bent : (corners : List Coordinates) → is_flat corners ≡ false → AllByRecursion (λ f. is_straight f ≡ false) (faces_of corners)
-faces_bent = by_four (λ corners. AllByRecursion (λ f. is_straight f ≡ false) (faces_of corners)) (λ a b c d solid.
-    (bent a b c d solid, (bent a b d c (some_c a b c d solid), (bent a c d b (some_b a b c d solid), (bent b c d a (some_a a b c d solid), tt)))))
+faces_bent = by_four (λ corners. AllByRecursion (λ f. is_straight f ≡ false) (faces_of corners)) (λ a b c d spans.
+    (bent a b c d spans, (bent a b d c (some_c a b c d spans), (bent a c d b (some_b a b c d spans), (bent b c d a (some_a a b c d spans), tt)))))
 
 corners_bent : (corners face : List Coordinates) → AreCorners corners → IsWithin corners face → Rises face → length face ≡ 3 → is_straight face ≡ false
 corners_bent corners face are within up three =

@@ -125,7 +125,7 @@ module _ (field : Field) (corners cell : List Coordinates) (up : are_ascending p
       exchanged true false false = refl
 
 -- ---- pieces of a cell of a tetrahedron
-module _ (corners cell : List Coordinates) (solid : is_flat corners ≡ false) where
+module _ (corners cell : List Coordinates) (not_flat : is_flat corners ≡ false) where
   -- that a corner of the tetrahedron that a piece has is one of the cell's
   abbrev HasOwn : List Coordinates → Type 0
   HasOwn piece = (q : Coordinates) → has place_cmp q piece ≡ true → has place_cmp q corners ≡ true → has place_cmp q cell ≡ true
@@ -149,7 +149,7 @@ module _ (corners cell : List Coordinates) (solid : is_flat corners ≡ false) w
       → AllByRecursion HasOwn (flat_map (halves_at a b o) pieces)
   halves_at_own a b differ there o is [] own = tt
   halves_at_own a b differ there (Some m) is (s ∷ pieces) own =
-      all-append HasOwn (bisect a b m s) (flat_map (bisect a b m) pieces) (halves_own a b m s (middle_is_new m a b corners (midpoint-IsMiddle a b m is) differ solid there) own.0) (halves_at_own a b differ there (Some m) is pieces own.1)
+      all-append HasOwn (bisect a b m s) (flat_map (bisect a b m) pieces) (halves_own a b m s (middle_is_new m a b corners (midpoint-IsMiddle a b m is) differ not_flat there) own.0) (halves_at_own a b differ there (Some m) is pieces own.1)
   halves_at_own a b differ there None is (s ∷ pieces) own = (own.0, halves_at_own a b differ there None is pieces own.1)
 
   -- an edge that the cell doesn't have is no edge of a piece

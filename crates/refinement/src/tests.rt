@@ -39,14 +39,14 @@ fn middles() -> Result<[Place; 6], Fail> {
     ])
 }
 
-/// What becomes of the tetrahedron of the corners with these marks, where this is the size of edges.
-fn refined_at(alloc: Global, size: u32, marks: Vec<Mark>) -> Result<Batch, Fail> {
+/// What becomes of the tetrahedron of the corners with these marks.
+fn refined_by(alloc: Global, field: &SizeField, marks: Vec<Mark>) -> Result<Batch, Fail> {
     let tet = Tet::new(corners()?, 0, 1).ok_or("the corners are flat")?;
     let mesh = Batch {
         tets: Ascending::gather(vec![in alloc; tet]?),
         marks: Ascending::gather(marks),
     };
-    Ok(refined(alloc, &mesh, &SizeField::uniform(alloc, size))?)
+    Ok(refined(alloc, &mesh, field)?)
 }
 
 fn pieces(alloc: Global, mesh: &Batch) -> Result<Vec<[Place; 4]>, Fail> {
@@ -77,7 +77,7 @@ fn marks_are_cut_with_the_tetrahedron_but_no_triangle_on_one_line(
         mark(&[o, x], 5)?,
         mark(&[o], 3)?,
     ]?;
-    let mesh = refined_at(rt.alloc(), 4, marks)?;
+    let mesh = refined_by(rt.alloc(), &SizeField::uniform(rt.alloc(), 4), marks)?;
     assert_eq!(rt;
         cells_of_marks(rt.alloc(), &mesh)?.as_slice(),
         [
@@ -98,8 +98,9 @@ fn marks_are_cut_with_the_tetrahedron_but_no_triangle_on_one_line(
 #[test]
 fn a_mesh_without_long_edges_stays(rt: HostRuntime) -> Result<(), Fail> {
     let [o, z, y, x] = corners()?;
+    let marks = vec![in rt.alloc(); mark(&[x, y, z], 7)?]?;
     // An edge of 12 would be the longest that isn't long.
-    let mesh = refined_at(rt.alloc(), 8, vec![in rt.alloc(); mark(&[x, y, z], 7)?]?)?;
+    let mesh = refined_by(rt.alloc(), &SizeField::uniform(rt.alloc(), 8), marks)?;
     assert_eq!(rt;
         pieces(rt.alloc(), &mesh)?.as_slice(),
         [[o, z, y, x]].as_slice()
