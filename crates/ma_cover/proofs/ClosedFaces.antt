@@ -29,8 +29,8 @@ all_true s t u v e f g h = rw (e, f, g, h) refl
 zero_or_alike : (v s : ℤ) → (int_eq s (pos 0) || are_alike v s) ≡ true → (s ≡ pos 0) ⊎ (are_alike v s ≡ true)
 zero_or_alike v s h = grind (arith, ints)
 
-moved : (s t : ℤ) → s ≡ t → pos 0 ≤ℤ t → pos 0 ≤ℤ s
-moved s t e h = rw e h
+kept_not_negative : (s t : ℤ) → s ≡ t → pos 0 ≤ℤ t → pos 0 ≤ℤ s
+kept_not_negative s t e h = rw e h
 
 on_some_face : (p : Rational) (a b c d : Coordinates) → vol6 a b c d ≢ pos 0 → is_in_closed p (a ∷ b ∷ c ∷ d ∷ []) ≡ true → is_inside p (a ∷ b ∷ c ∷ d ∷ []) ≡ false
     → IsOnFaceOf p (a ∷ b ∷ c ∷ d ∷ [])
@@ -47,11 +47,11 @@ on_some_face p a b c d solid closed out =
     elim was_d [
       | inl e ↦ (0, a ∷ b ∷ c ∷ [], omega arith, refl, on_face a b c d p solid e i j k)
       | inr at_d ↦ elim was_c [
-        | inl e ↦ (1, a ∷ b ∷ d ∷ [], omega arith, refl, on_face a b d c p (some_c a b c d solid) e (moved _ _ (weight_bc b c d a p) i) (moved _ _ (weight_bc a c d b p) j) l)
+        | inl e ↦ (1, a ∷ b ∷ d ∷ [], omega arith, refl, on_face a b d c p (some_c a b c d solid) e (kept_not_negative _ _ (weight_bc b c d a p) i) (kept_not_negative _ _ (weight_bc a c d b p) j) l)
         | inr at_c ↦ elim was_b [
-          | inl e ↦ (2, a ∷ c ∷ d ∷ [], omega arith, refl, on_face a c d b p (some_b a b c d solid) e (moved _ _ (weight_turn b c d a p) i) (moved _ _ (weight_bc a b d c p) k) (moved _ _ (weight_bc a b c d p) l))
+          | inl e ↦ (2, a ∷ c ∷ d ∷ [], omega arith, refl, on_face a c d b p (some_b a b c d solid) e (kept_not_negative _ _ (weight_turn b c d a p) i) (kept_not_negative _ _ (weight_bc a b d c p) k) (kept_not_negative _ _ (weight_bc a b c d p) l))
           | inr at_b ↦ elim was_a [
-            | inl e ↦ (3, b ∷ c ∷ d ∷ [], omega arith, refl, on_face b c d a p (some_a a b c d solid) e (moved _ _ (weight_turn a c d b p) j) (moved _ _ (weight_turn a b d c p) k) (moved _ _ (weight_turn a b c d p) l))
+            | inl e ↦ (3, b ∷ c ∷ d ∷ [], omega arith, refl, on_face b c d a p (some_a a b c d solid) e (kept_not_negative _ _ (weight_turn a c d b p) j) (kept_not_negative _ _ (weight_turn a b d c p) k) (kept_not_negative _ _ (weight_turn a b c d p) l))
             | inr at_a ↦ absurd (false≢true (sym out ∙ all_true (is_beside b c d a p) (is_beside a c d b p) (is_beside a b d c p) (is_beside a b c d p) at_a at_b at_c at_d))
           ]
         ]
@@ -148,12 +148,12 @@ module _ (a b c d : Coordinates) where
         (mean_not_across a b d c x y z p at_x.at_c at_y.at_c at_z.at_c on)
         (mean_not_across a b c d x y z p at_x.at_d at_y.at_d at_z.at_d on)
 
-    passes : (s t : Bool) → s ≡ true → (t ≡ true → ⊥) → (s && not t) ≡ true
-    passes s t e f = rw (e, false_from_ne_true t f) refl
+    test_holds : (s t : Bool) → s ≡ true → (t ≡ true → ⊥) → (s && not t) ≡ true
+    test_holds s t e f = rw (e, false_from_ne_true t f) refl
 
     off_all : is_on_face p (a ∷ b ∷ c ∷ d ∷ []) ≡ false → IsOffFacesOf p (a ∷ b ∷ c ∷ d ∷ [])
     off_all h =
-        let test = passes (is_in_closed p (a ∷ b ∷ c ∷ d ∷ [])) (is_inside p (a ∷ b ∷ c ∷ d ∷ [])) in
+        let test = test_holds (is_in_closed p (a ∷ b ∷ c ∷ d ∷ [])) (is_inside p (a ∷ b ∷ c ∷ d ∷ [])) in
         let off = inside_is_off_faces p (a ∷ b ∷ c ∷ d ∷ []) in (
           (λ on. false≢true (sym h ∙ test (closed_on a b c corner_a corner_b corner_c on) (λ within. (off within).0 on))),
           (
@@ -173,16 +173,16 @@ not_from false h = refl
 not_flat : (corners : List Coordinates) → are_corners corners ≡ true → is_flat corners ≡ false
 not_flat corners are = not_from (is_flat corners) (and_parts (are_ascending place_cmp corners) (not (is_flat corners)) are).1
 
-pub is_on : (p : Rational) (corners : List Coordinates) → are_corners corners ≡ true → is_on_face p corners ≡ true → IsOnFaceOf p corners
-is_on p corners are =
+pub on_by_test : (p : Rational) (corners : List Coordinates) → are_corners corners ≡ true → is_on_face p corners ≡ true → IsOnFaceOf p corners
+on_by_test p corners are =
     by_four (λ l. is_on_face p l ≡ true → IsOnFaceOf p l)
     (λ a b c d solid h.
     let both = and_parts (is_in_closed p (a ∷ b ∷ c ∷ d ∷ [])) (not (is_inside p (a ∷ b ∷ c ∷ d ∷ []))) h in
     on_some_face p a b c d solid both.0 (not_from (is_inside p (a ∷ b ∷ c ∷ d ∷ [])) both.1))
     corners (not_flat corners are)
 
-pub is_off : (p : Rational) (corners : List Coordinates) → are_corners corners ≡ true → is_on_face p corners ≡ false → IsOffFacesOf p corners
-is_off p corners are = by_four (λ l. is_on_face p l ≡ false → IsOffFacesOf p l) (λ a b c d _ h. off_all a b c d p h) corners (not_flat corners are)
+pub off_by_test : (p : Rational) (corners : List Coordinates) → are_corners corners ≡ true → is_on_face p corners ≡ false → IsOffFacesOf p corners
+off_by_test p corners are = by_four (λ l. is_on_face p l ≡ false → IsOffFacesOf p l) (λ a b c d _ h. off_all a b c d p h) corners (not_flat corners are)
 
 -- ---- of a list
 pub all_of_each : {X : Type 0} (P : X → Type 0) (xs : List X) → ((k : ℕ) (d : X) → k < length xs → P (get_or xs k d)) → AllByRecursion P xs

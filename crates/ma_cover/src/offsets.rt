@@ -72,7 +72,7 @@ fn offset_of(spot: &Spot, place: Place) -> Offset
 }
 
 /// The triple product of three vectors.
-fn box_of(u: &Leg, v: &Leg, o: &Offset) -> i128
+fn triple_product(u: &Leg, v: &Leg, o: &Offset) -> i128
     ensures { result ≡ dot (cross u.now v.now) o.now }
 {
     sum_of_prisms(
@@ -87,5 +87,5 @@ fn box_of(u: &Leg, v: &Leg, o: &Offset) -> i128
 pub(crate) fn spot_side(a: Place, b: Place, c: Place, spot: &Spot) -> i128
     ensures { result ≡ side a b c spot.now }
 {
-    box_of(&leg_between(a, b), &leg_between(a, c), &offset_of(spot, a))
+    triple_product(&leg_between(a, b), &leg_between(a, c), &offset_of(spot, a))
 }
