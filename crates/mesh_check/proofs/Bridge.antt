@@ -12,7 +12,7 @@ use Rattle.ma_cells.specs.Tetrahedron.{Tetrahedron, is_flat, tetrahedron_of}
 use Rattle.msh_read.specs.declared.raw.RawMark.{RawMark}
 use Rattle.msh_read.specs.declared.raw.RawTet.{RawTet}
 use Rattle.msh_read.specs.Raw.{Raw}
-use Rattle.msh_read.specs.Steps.{◌>>=◌, ◌>>◌, check, each, or_fault}
+use Rattle.msh_read.specs.Trying.{◌>>=◌, ◌>>◌, check, each, or_fault}
 use Rattle.mesh_check.specs.declared.fault.MeshFault.{MeshFault}
 use Rattle.mesh_check.specs.declared.fault.MeshFault.TheVariants.{NoTets, TooManyTets, TooFar, SamePlace, Flat, Repeated}
 use Rattle.mesh_check.specs.Accepted.{accepted_of, apart, corner_places, mesh_at, most_accepted_tets, no_item, no_pair, place_at, tetrahedron_at, tetrahedra_at}

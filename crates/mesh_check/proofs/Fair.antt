@@ -15,7 +15,7 @@ use Rattle.ma_cells.specs.Tetrahedron.{Tetrahedron, are_corners, are_tetrahedra}
 use Rattle.ma_cells.specs.declared.cell.Cell.{Cell}
 use Rattle.ma_cells.proofs.Members.{at_member}
 use Rattle.msh_read.specs.Raw.{Raw}
-use Rattle.msh_read.specs.Steps.{◌>>=◌, ◌>>◌, each}
+use Rattle.msh_read.specs.Trying.{◌>>=◌, ◌>>◌, each}
 use Rattle.overlap_check.specs.Overlap.{first_overlap_of}
 use Rattle.mesh_check.specs.Accepted.{accepted_of, apart, no_pair}
 use Rattle.mesh_check.specs.Laws.{AcceptedIsFair, IsFair}

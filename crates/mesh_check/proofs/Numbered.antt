@@ -12,7 +12,7 @@ use Rattle.ma_geom.specs.Coordinates.{Coordinates, place_cmp}
 use Rattle.ma_cells.specs.Ascending.{are_ascending, are_distinct, ascending_of, has}
 use Rattle.ma_cells.specs.Meshes.{corner_sets}
 use Rattle.ma_cells.specs.Tetrahedron.{Tetrahedron, are_corners, is_flat, tetrahedron_of}
-use Rattle.msh_read.specs.Steps.{◌>>=◌, each, or_fault}
+use Rattle.msh_read.specs.Trying.{◌>>=◌, each, or_fault}
 use Rattle.mesh_check.specs.declared.fault.MeshFault.TheVariants.{Flat, TooFar}
 use Rattle.mesh_check.specs.Pairs.{first_pair, first_with, numbered_from, paired}
 use Rattle.std.specs.Option.{option_and_then}

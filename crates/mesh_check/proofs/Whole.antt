@@ -5,7 +5,7 @@ use Rattle.ma_cells.specs.Cells.{CellMark}
 use Rattle.ma_cells.specs.Meshes.{MarkedMesh}
 use Rattle.ma_cells.specs.Tetrahedron.{Tetrahedron}
 use Rattle.msh_read.specs.Raw.{Raw}
-use Rattle.msh_read.specs.Steps.{◌>>=◌, ◌>>◌}
+use Rattle.msh_read.specs.Trying.{◌>>=◌, ◌>>◌}
 use Rattle.mesh_check.specs.Accepted.{apart}
 use Rattle.mesh_check.specs.steps.FoundMarks.{found_of, found_loose, found_marks}
 use Rattle.mesh_check.specs.steps.Tetrahedra.{found_tets}

@@ -12,7 +12,7 @@ use Rattle.ma_cells.specs.Tetrahedron.{Tetrahedron, is_flat}
 use Rattle.msh_read.specs.declared.raw.RawMark.{RawMark}
 use Rattle.msh_read.specs.declared.raw.RawTet.{RawTet}
 use Rattle.msh_read.specs.Raw.{Raw, node_at}
-use Rattle.msh_read.specs.Steps.{◌>>◌, check}
+use Rattle.msh_read.specs.Trying.{◌>>◌, check}
 use Rattle.mesh_check.specs.declared.fault.MeshFault.{MeshFault}
 use Rattle.mesh_check.specs.declared.fault.MeshFault.TheVariants.{NoTets, TooManyTets, TooFar, SamePlace, Flat, Repeated, Overlap}
 use Rattle.overlap_check.specs.Overlap.{first_overlap_of}

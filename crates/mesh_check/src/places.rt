@@ -1,7 +1,7 @@
 // Nodes of tetrahedra, and their places after a shift.
 ghost use Rattle.std.specs.Prelude.{◌≡◌, ◌≤◌, ◌^◌, ◌*ℤ◌, pos, IfOk, Some, None, if◌then◌else◌};
 ghost use Rattle.msh_read.specs.Raw.{node_at};
-ghost use Rattle.msh_read.specs.Steps.{each};
+ghost use Rattle.msh_read.specs.Trying.{each};
 ghost use Rattle.mesh_check.specs.Answer.{Answers};
 ghost use Rattle.mesh_check.specs.Places.{corner_positions, is_near, shifted};
 ghost use Rattle.mesh_check.specs.steps.ShiftedPlaces.{numbered_place, place_of, within_range};

@@ -7,7 +7,7 @@ ghost use Rattle.std.specs.Cmp.Lexicographic.{slice_cmp};
 ghost use Rattle.ma_geom.specs.Coordinates.{place_cmp};
 ghost use Rattle.ma_cells.specs.Meshes.{are_listed_once, corner_sets};
 ghost use Rattle.msh_read.specs.Raw.{raw};
-ghost use Rattle.msh_read.specs.Steps.{each};
+ghost use Rattle.msh_read.specs.Trying.{each};
 ghost use Rattle.mesh_check.specs.Answer.{Answers};
 ghost use Rattle.mesh_check.specs.Pairs.{first_pair, numbered_from};
 ghost use Rattle.mesh_check.specs.steps.Tetrahedra.{counted, numbered_tet, placed, places_of, found_tet, distinct_tets, found_tets};

@@ -23,7 +23,7 @@ use Rattle.mesh_laws.specs.Adapted.{IsSoundMesh}
 use Rattle.one_mesh.proofs.Rounds.{rounds_adapt, rounds_halve_the_grid}
 use Rattle.size_marks.specs.Field.{Field}
 use Rattle.one_mesh.specs.Adaptation.{Plan}
-use Rattle.msh_read.specs.Steps.{◌>>=◌}
+use Rattle.msh_read.specs.Trying.{◌>>=◌}
 use Rattle.mesh_check.proofs.Numbered.{then_ok}
 use Rattle.meshadapt.specs.Acts.{PutLine, Output, acts, final, final_text, outputs}
 use Rattle.meshadapt.specs.Geometry.{GeometryIsKept, RoundsKeepGeometry, StoresKept}

@@ -10,7 +10,7 @@ use Rattle.mesh_check.specs.declared.fault.MeshFault.{MeshFault}
 use Rattle.msh_read.specs.GroupNames.{GroupName}
 use Rattle.msh_read.specs.Raw.{Raw}
 use Rattle.msh_read.specs.Reading.{read_of}
-use Rattle.msh_read.specs.Steps.{◌>>=◌}
+use Rattle.msh_read.specs.Trying.{◌>>=◌}
 use Rattle.msh_read.specs.declared.fault.MshFault.{MshFault}
 use Rattle.one_mesh.specs.Adaptation.{Plan}
 use Rattle.one_mesh.specs.Holding.{set_of}

@@ -1,7 +1,7 @@
 -- Reading the items of a list one after the other, as a loop does.
 use Rattle.std.proofs.Common.{◌≡◌, List, [], ◌∷◌, ◌++◌, refl, sym, ap, ◌∙◌, append_assoc}
 use Rattle.std.specs.Prelude.{Result, Ok, Err}
-use Rattle.msh_read.specs.Steps.{◌>>=◌, each}
+use Rattle.msh_read.specs.Trying.{◌>>=◌, each}
 
 -- what was read before, and what is still read
 abbrev pub behind : {A E : Type 0} → List A → Result (List A) E → Result (List A) E

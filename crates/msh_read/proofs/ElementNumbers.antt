@@ -7,10 +7,10 @@ use Rattle.msh_read.specs.declared.fault.Fault.{Fault}
 use Rattle.msh_read.specs.declared.fault.Fault.TheVariants.{Kind, NoMemory}
 use Rattle.msh_read.specs.declared.fault.MshKind.{MshKind}
 use Rattle.msh_read.specs.declared.fault.MshKind.TheVariants.{NoSuchNode}
-use Rattle.msh_read.specs.code_steps.LineAnswers.{Fails}
+use Rattle.msh_read.specs.steps.LineAnswers.{Fails}
 use Rattle.msh_read.specs.ElementLines.{position_of, element_at, element_from}
 use Rattle.msh_read.specs.Lines.{is_number, natural}
-use Rattle.msh_read.specs.Steps.{each, or_fault}
+use Rattle.msh_read.specs.Trying.{each, or_fault}
 use Rattle.msh_read.proofs.Each.{behind, each_on, each_stops}
 
 -- a look-up of the number

@@ -23,10 +23,10 @@ use Rattle.msh_read.specs.NodeLines.{node_of}
 use Rattle.msh_read.specs.Raw.{Raw}
 use Rattle.msh_read.specs.Reading.{FileRead, any_count, at_least_one, at_line, counted_in, end_line_in, entries_in, format_in, no_more, nothing_known, numbers_of_nodes, read_of, skipped, mesh_in, with_elements, with_format, with_named, with_names, with_nodes, with_section, with_sections}
 use Rattle.msh_read.specs.Sections.{BehindHeader, NumberedLine, Section, behind_header, sections_of}
-use Rattle.msh_read.specs.Steps.{◌>>=◌, ◌>>◌}
-use Rattle.msh_read.specs.code_steps.Front.{Front, nothing_read}
-use Rattle.msh_read.specs.code_steps.LineByLine.{begun, count_read, counted_read, element_read, elements_begun, end_read, enough, entry_read, format_begun, format_end_read, format_read, header_read, name_read, names_begun, next_read, node_read, nodes_begun, skipped_read, step, with_element}
-use Rattle.msh_read.specs.code_steps.LinesRead.{after, end_of, read_by_lines}
+use Rattle.msh_read.specs.Trying.{◌>>=◌, ◌>>◌}
+use Rattle.msh_read.specs.steps.Front.{Front, nothing_read}
+use Rattle.msh_read.specs.steps.LineByLine.{begun, count_read, counted_read, element_read, elements_begun, end_read, enough, entry_read, format_begun, format_end_read, format_read, header_read, name_read, names_begun, next_read, node_read, nodes_begun, skipped_read, step, with_element}
+use Rattle.msh_read.specs.steps.LinesRead.{after, end_of, read_by_lines}
 use Rattle.msh_read.proofs.EndLines.{count_of-end, format_of-end}
 
 -- ---- one step after another

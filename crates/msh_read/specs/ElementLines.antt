@@ -8,7 +8,7 @@ use Rattle.msh_read.specs.declared.fault.MshKind.TheVariants.{BadLine, NoSuchNod
 use Rattle.msh_read.specs.declared.raw.RawMark.{RawMark}
 use Rattle.msh_read.specs.declared.raw.RawTet.{RawTet}
 use Rattle.msh_read.specs.Lines.{number_in_word, is_number, is_tag, natural}
-use Rattle.msh_read.specs.Steps.{◌>>=◌, ◌>>◌, check, or_fault, each}
+use Rattle.msh_read.specs.Trying.{◌>>=◌, ◌>>◌, check, or_fault, each}
 
 -- an element is a tetrahedron or a mark
 pub data RawElement : Type 0 where

@@ -7,5 +7,5 @@ pub mod NodeLines
 pub mod Raw
 pub mod Reading
 pub mod Sections
-pub mod Steps
-pub mod code_steps
+pub mod Trying
+pub mod steps

@@ -5,7 +5,7 @@ use Rattle.ma_text.specs.Numbers.{digits_of}
 use Rattle.ma_text.specs.Words.{words_of}
 use Rattle.msh_read.specs.declared.fault.MshKind.{MshKind}
 use Rattle.msh_read.specs.declared.fault.MshKind.TheVariants.{OtherVersion, Binary, BadLine}
-use Rattle.msh_read.specs.Steps.{◌>>=◌, ◌>>◌, check, or_fault}
+use Rattle.msh_read.specs.Trying.{◌>>=◌, ◌>>◌, check, or_fault}
 
 -- ---- words
 

@@ -7,7 +7,7 @@ use Rattle.msh_read.specs.declared.fault.MshKind.{MshKind}
 use Rattle.msh_read.specs.declared.fault.MshKind.TheVariants.{BadLine}
 use Rattle.msh_read.specs.GroupNames.{GroupName}
 use Rattle.msh_read.specs.Lines.{number_in_word, is_tag, natural}
-use Rattle.msh_read.specs.Steps.{◌>>=◌, ◌>>◌, check, or_fault}
+use Rattle.msh_read.specs.Trying.{◌>>=◌, ◌>>◌, check, or_fault}
 
 -- '"'
 abbrev pub is_quote : ℕ → Bool

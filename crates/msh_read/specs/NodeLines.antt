@@ -10,7 +10,7 @@ use Rattle.ma_text.specs.Words.{words_of}
 use Rattle.msh_read.specs.declared.fault.MshKind.{MshKind}
 use Rattle.msh_read.specs.declared.fault.MshKind.TheVariants.{BadLine, NodeTwice, NotWhole, OutOfRange}
 use Rattle.msh_read.specs.Lines.{four_of, number_in_word, is_number}
-use Rattle.msh_read.specs.Steps.{◌>>=◌, ◌>>◌, check, or_fault}
+use Rattle.msh_read.specs.Trying.{◌>>=◌, ◌>>◌, check, or_fault}
 
 -- a coordinate is at most 2^30 in absolute value
 abbrev pub coordinate_within : Result ℤ NumberFault → Result ℤ MshKind

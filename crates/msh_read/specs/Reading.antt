@@ -16,7 +16,7 @@ use Rattle.msh_read.specs.NameLines.{name_of}
 use Rattle.msh_read.specs.NodeLines.{node_of}
 use Rattle.msh_read.specs.Raw.{Raw}
 use Rattle.msh_read.specs.Sections.{NumberedLine, Section, SectionEnd, sections_of}
-use Rattle.msh_read.specs.Steps.{◌>>=◌, ◌>>◌, check, or_fault}
+use Rattle.msh_read.specs.Trying.{◌>>=◌, ◌>>◌, check, or_fault}
 
 -- what stands at the line with the number, or its fault
 abbrev pub at_line : {A : Type 0} → ℕ → Result A MshKind → Result A MshFault

@@ -1,10 +1,10 @@
 // Lines of `$Elements`.
 ghost use Rattle.std.specs.Prelude.{◌≡◌, ◌≢◌, ◌≤◌, ◌<◌, ◌^◌, IfSome, IfOk, length, true};
 ghost use Rattle.std.specs.List.{list_all};
-ghost use Rattle.msh_read.specs.code_steps.LineAnswers.{Gives, element_seen};
+ghost use Rattle.msh_read.specs.steps.LineAnswers.{Gives, element_seen};
 ghost use Rattle.msh_read.specs.ElementLines.{are_different, element_at, element_by, element_from, element_of, element_with, nodes_of_kind, numbers_of, position_of, positions_of, tag_of};
 ghost use Rattle.msh_read.specs.Lines.{is_tag};
-ghost use Rattle.msh_read.specs.Steps.{each};
+ghost use Rattle.msh_read.specs.Trying.{each};
 
 use crate::entry::Entry;
 use crate::fault::{Fault, MshKind};

@@ -1,6 +1,6 @@
 // Why a file is not read.
 ghost use Rattle.std.specs.Prelude.{◌≡◌};
-ghost use Rattle.msh_read.specs.code_steps.LineAnswers.{located};
+ghost use Rattle.msh_read.specs.steps.LineAnswers.{located};
 ghost use Rattle.msh_read.specs.declared.fault.Fault.TheVariants as line_faults;
 
 use ma_geom::Memory;

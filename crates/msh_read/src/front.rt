@@ -3,12 +3,12 @@ ghost use Rattle.std.specs.Prelude.{◌≡◌, ◌≤◌, IfOk, OnOk, true};
 ghost use Rattle.std.specs.List.{All, list_all};
 ghost use Rattle.std.specs.List.Sorted.{IsStrictlySortedBy};
 ghost use Rattle.ma_cells.specs.Ascending.{ascending_of};
-ghost use Rattle.msh_read.specs.code_steps.LineAnswers.{Gives, element_seen};
-ghost use Rattle.msh_read.specs.code_steps.Front.{nothing_read};
+ghost use Rattle.msh_read.specs.steps.LineAnswers.{Gives, element_seen};
+ghost use Rattle.msh_read.specs.steps.Front.{nothing_read};
 ghost use Rattle.msh_read.specs.GroupNames.{has_dimension, name_cmp};
 ghost use Rattle.msh_read.specs.Raw.{raw};
-ghost use Rattle.msh_read.specs.code_steps.LinesRead.{end_of, is_outside, may_end, mesh_said};
-ghost use Rattle.msh_read.specs.code_steps.LineByLine.{at, begin, begun, count_read, counted_read, element_read, elements_begun, end_read, entry_read, enough, format_begun, format_end_read, format_read, header_read, name_read, names_begun, next_read, node_read, nodes_begun, skipped_read, step, with_element};
+ghost use Rattle.msh_read.specs.steps.LinesRead.{end_of, is_outside, may_end, mesh_said};
+ghost use Rattle.msh_read.specs.steps.LineByLine.{at, begin, begun, count_read, counted_read, element_read, elements_begun, end_read, entry_read, enough, format_begun, format_end_read, format_read, header_read, name_read, names_begun, next_read, node_read, nodes_begun, skipped_read, step, with_element};
 
 use crate::elements::element;
 use crate::entry::Entry;
@@ -49,7 +49,7 @@ pub struct Front<'a> {
 impl<'a> Model for Front<'a> {
     ghost use Rattle.std.specs.Prelude.{◌≡◌, true};
     ghost use Rattle.std.specs.List.{list_all};
-    ghost use Rattle.msh_read.specs.code_steps.Front.{Front as Read};
+    ghost use Rattle.msh_read.specs.steps.Front.{Front as Read};
     ghost use Rattle.msh_read.specs.GroupNames.{has_dimension};
 
     ghost Value = { Read };
@@ -99,7 +99,7 @@ impl<'a> Front<'a> {
         self.header = name;
     }
 
-    #[tactic(auto, unfolding(crate::specs::code_steps::LineByLine::format_begun))]
+    #[tactic(auto, unfolding(crate::specs::steps::LineByLine::format_begun))]
     fn begin_format(&mut self, name: &'a [u8]) -> Result<(), Fault>
         ensures { Gives (λ _. self.new) result (format_begun name.entry.now self.old) }
     {
@@ -111,7 +111,7 @@ impl<'a> Front<'a> {
         Ok(())
     }
 
-    #[tactic(auto, unfolding(crate::specs::code_steps::LineByLine::names_begun))]
+    #[tactic(auto, unfolding(crate::specs::steps::LineByLine::names_begun))]
     fn begin_names(&mut self, name: &'a [u8]) -> Result<(), Fault>
         ensures { Gives (λ _. self.new) result (names_begun name.entry.now self.old) }
     {
@@ -126,7 +126,7 @@ impl<'a> Front<'a> {
         Ok(())
     }
 
-    #[tactic(auto, unfolding(crate::specs::code_steps::LineByLine::nodes_begun))]
+    #[tactic(auto, unfolding(crate::specs::steps::LineByLine::nodes_begun))]
     fn begin_nodes(&mut self, name: &'a [u8]) -> Result<(), Fault>
         ensures { Gives (λ _. self.new) result (nodes_begun name.entry.now self.old) }
     {
@@ -141,7 +141,7 @@ impl<'a> Front<'a> {
         Ok(())
     }
 
-    #[tactic(auto, unfolding(crate::specs::code_steps::LineByLine::elements_begun))]
+    #[tactic(auto, unfolding(crate::specs::steps::LineByLine::elements_begun))]
     fn begin_elements(&mut self, name: &'a [u8]) -> Result<(), Fault>
         ensures { Gives (λ _. self.new) result (elements_begun name.entry.now self.old) }
     {
@@ -159,7 +159,7 @@ impl<'a> Front<'a> {
         Ok(())
     }
 
-    #[tactic(auto, unfolding(crate::specs::code_steps::LineByLine::begun))]
+    #[tactic(auto, unfolding(crate::specs::steps::LineByLine::begun))]
     fn begin_section(&mut self, name: &'a [u8]) -> Result<(), Fault>
         ensures { Gives (λ _. self.new) result (begun name.entry.now self.old) }
     {
@@ -177,7 +177,7 @@ impl<'a> Front<'a> {
         }
     }
 
-    #[tactic(auto, unfolding(crate::specs::code_steps::LineByLine::header_read))]
+    #[tactic(auto, unfolding(crate::specs::steps::LineByLine::header_read))]
     fn read_header(&mut self, line: &'a [u8]) -> Result<(), Fault>
         ensures { Gives (λ _. self.new) result (header_read self.old line.entry.now) }
     {
@@ -187,7 +187,7 @@ impl<'a> Front<'a> {
         }
     }
 
-    #[tactic(auto, unfolding(crate::specs::code_steps::LineByLine::skipped_read))]
+    #[tactic(auto, unfolding(crate::specs::steps::LineByLine::skipped_read))]
     fn read_skipped(&mut self, line: &[u8])
         ensures { skipped_read self.old line.now ≡ Ok self.new }
     {
@@ -196,7 +196,7 @@ impl<'a> Front<'a> {
         }
     }
 
-    #[tactic(auto, unfolding(crate::specs::code_steps::LineByLine::format_read))]
+    #[tactic(auto, unfolding(crate::specs::steps::LineByLine::format_read))]
     fn read_format(&mut self, line: &[u8]) -> Result<(), Fault>
         ensures { Gives (λ _. self.new) result (format_read self.old line.now) }
     {
@@ -209,7 +209,7 @@ impl<'a> Front<'a> {
         }
     }
 
-    #[tactic(auto, unfolding(crate::specs::code_steps::LineByLine::format_end_read))]
+    #[tactic(auto, unfolding(crate::specs::steps::LineByLine::format_end_read))]
     fn read_format_end(&mut self, line: &[u8]) -> Result<(), Fault>
         ensures { Gives (λ _. self.new) result (format_end_read self.old line.now) }
     {
@@ -221,7 +221,7 @@ impl<'a> Front<'a> {
         }
     }
 
-    #[tactic(auto, unfolding(crate::specs::code_steps::LineByLine::count_read))]
+    #[tactic(auto, unfolding(crate::specs::steps::LineByLine::count_read))]
     fn read_count(&mut self, section: Counted, line: &[u8]) -> Result<(), Fault>
         ensures { Gives (λ _. self.new) result (count_read section self.old line.now) }
     {
@@ -231,7 +231,7 @@ impl<'a> Front<'a> {
         Ok(())
     }
 
-    #[tactic(auto, using(crate::proofs::Dimensions::dimensions_kept), unfolding(crate::specs::code_steps::LineByLine::name_read))]
+    #[tactic(auto, using(crate::proofs::Dimensions::dimensions_kept), unfolding(crate::specs::steps::LineByLine::name_read))]
     fn read_name(&mut self, line: &[u8]) -> Result<(), Fault>
         ensures { Gives (λ _. self.new) result (name_read self.old line.now) }
     {
@@ -240,7 +240,7 @@ impl<'a> Front<'a> {
         Ok(())
     }
 
-    #[tactic(auto, unfolding(crate::specs::code_steps::LineByLine::node_read))]
+    #[tactic(auto, unfolding(crate::specs::steps::LineByLine::node_read))]
     fn read_node(&mut self, line: &[u8]) -> Result<(), Fault>
         ensures { Gives (λ _. self.new) result (node_read self.old line.now) }
     {
@@ -260,7 +260,7 @@ impl<'a> Front<'a> {
         Ok(())
     }
 
-    #[tactic(auto, unfolding(crate::specs::code_steps::LineByLine::element_read))]
+    #[tactic(auto, unfolding(crate::specs::steps::LineByLine::element_read))]
     fn read_element(&mut self, line: &[u8]) -> Result<(), Fault>
         ensures { Gives (λ _. self.new) result (element_read self.old line.now) }
     {
@@ -279,7 +279,7 @@ impl<'a> Front<'a> {
         }
     }
 
-    #[tactic(auto, unfolding(crate::specs::code_steps::LineByLine::end_read))]
+    #[tactic(auto, unfolding(crate::specs::steps::LineByLine::end_read))]
     fn read_end(&mut self, left: u64) -> Result<(), Fault>
         ensures { Gives (λ _. self.new) result (end_read left self.old) }
     {
@@ -290,7 +290,7 @@ impl<'a> Front<'a> {
         Ok(())
     }
 
-    #[tactic(auto, unfolding(crate::specs::code_steps::LineByLine::next_read))]
+    #[tactic(auto, unfolding(crate::specs::steps::LineByLine::next_read))]
     fn read_next(&mut self, section: Counted, left: u64, line: &[u8]) -> Result<(), Fault>
         ensures { Gives (λ _. self.new) result (next_read section left self.old line.now) }
     {
@@ -302,7 +302,7 @@ impl<'a> Front<'a> {
         Ok(())
     }
 
-    #[tactic(auto, unfolding(crate::specs::code_steps::LineByLine::counted_read))]
+    #[tactic(auto, unfolding(crate::specs::steps::LineByLine::counted_read))]
     fn read_counted(&mut self, section: Counted, left: u64, line: &[u8]) -> Result<(), Fault>
         ensures { Gives (λ _. self.new) result (counted_read section left self.old line.now) }
     {
@@ -314,7 +314,7 @@ impl<'a> Front<'a> {
     }
 
     /// Reads the line that comes next.
-    #[tactic(auto, unfolding(crate::specs::code_steps::LineByLine::step))]
+    #[tactic(auto, unfolding(crate::specs::steps::LineByLine::step))]
     pub fn step(&mut self, line: &'a [u8]) -> Result<(), Fault>
         ensures { Gives (λ _. self.new) result (step self.old line.entry.now) }
     {
@@ -368,7 +368,7 @@ impl<'a> Front<'a> {
     }
 
     /// What the file says that ends here.
-    #[tactic(auto, unfolding(crate::specs::code_steps::LinesRead::end_of))]
+    #[tactic(auto, unfolding(crate::specs::steps::LinesRead::end_of))]
     pub fn finish(self) -> Result<RawMesh, Fault>
         ensures value { Gives raw result (end_of self.entry) }
         ensures names { IfOk result (λ mesh. IsStrictlySortedBy name_cmp mesh.names.items) }

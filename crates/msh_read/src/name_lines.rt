@@ -1,6 +1,6 @@
 // Lines of `$PhysicalNames`.
 ghost use Rattle.std.specs.Prelude.{◌≡◌, None, Some, Ok, Err, IfOk, MatchOption, MatchResult, position, true};
-ghost use Rattle.msh_read.specs.code_steps.LineAnswers.{Gives};
+ghost use Rattle.msh_read.specs.steps.LineAnswers.{Gives};
 ghost use Rattle.msh_read.specs.GroupNames.{has_dimension};
 ghost use Rattle.msh_read.specs.NameLines.{cut_at_quote, is_quote, name_of, number_in_front, quoted_text};
 

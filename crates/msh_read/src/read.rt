@@ -4,10 +4,10 @@ ghost use Rattle.std.specs.List.{All};
 ghost use Rattle.std.specs.List.Sorted.{IsStrictlySortedBy};
 ghost use Rattle.ma_text.specs.Lines.{numbered_lines};
 ghost use Rattle.msh_read.specs.Answer.{AnswersFile, ReadsMesh};
-ghost use Rattle.msh_read.specs.code_steps.Front.{nothing_read};
+ghost use Rattle.msh_read.specs.steps.Front.{nothing_read};
 ghost use Rattle.msh_read.specs.GroupNames.{name_cmp};
 ghost use Rattle.msh_read.specs.Reading.{read_of};
-ghost use Rattle.msh_read.specs.code_steps.LinesRead.{after};
+ghost use Rattle.msh_read.specs.steps.LinesRead.{after};
 
 use crate::fault::MshFault;
 use crate::front::Front;

@@ -14,10 +14,10 @@ use Rattle.ma_text.specs.Words.{words_of}
 use Rattle.msh_read.specs.declared.stand.Counted.TheVariants.{Elements}
 use Rattle.msh_read.specs.declared.stand.Stand.TheVariants.{Outside, Count, Entries}
 use Rattle.msh_read.specs.ElementLines.{a_mark, a_tet, element_of, nodes_of_kind}
-use Rattle.msh_read.specs.code_steps.Front.{Front}
+use Rattle.msh_read.specs.steps.Front.{Front}
 use Rattle.msh_read.specs.GroupNames.{GroupName}
 use Rattle.msh_read.specs.Lines.{closes, header_of, is_tag}
-use Rattle.msh_read.specs.code_steps.LineByLine.{begun, counted_read, element_read, elements_begun, end_read, header_read, step}
+use Rattle.msh_read.specs.steps.LineByLine.{begun, counted_read, element_read, elements_begun, end_read, header_read, step}
 use Rattle.msh_write.specs.ReadsBack.{positions_among, raw_mark, raw_tet}
 use Rattle.msh_write.specs.Text.{counted_section, element_line, kind_of, mark_element, number_among, item_lines, oriented, tet_element}
 use Rattle.msh_write.proofs.ElementsBack.{element-closes, element-is_line, element-read}

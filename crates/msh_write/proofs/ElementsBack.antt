@@ -9,7 +9,7 @@ use Rattle.ma_geom.specs.Coordinates.{Coordinates, place_cmp}
 use Rattle.ma_cells.specs.Ascending.{are_distinct, has}
 use Rattle.msh_read.specs.ElementLines.{element_at, element_by, element_of, element_with, nodes_of_kind, numbers_of, positions_of}
 use Rattle.msh_read.specs.Lines.{closes, is_number, is_tag, number_in_word}
-use Rattle.msh_read.specs.Steps.{each}
+use Rattle.msh_read.specs.Trying.{each}
 use Rattle.ma_text.specs.Words.{words_of}
 use Rattle.msh_write.specs.Text.{element_line, number_among}
 use Rattle.msh_write.proofs.LinesBack.{is_line, is_line-line}

@@ -13,7 +13,7 @@ use Rattle.ma_cells.specs.Ascending.{are_ascending, are_distinct, ascending_of, 
 use Rattle.ma_cells.proofs.Ascents.{is-ascending_of, length-ascending_of, strict_from_ascending}
 use Rattle.msh_read.specs.ElementLines.{are_different, position_of}
 use Rattle.msh_read.specs.NodeLines.{is_used}
-use Rattle.msh_read.specs.Steps.{each}
+use Rattle.msh_read.specs.Trying.{each}
 use Rattle.msh_write.specs.Text.{number_among, oriented}
 
 -- so many numbers, from the first on

@@ -5,11 +5,11 @@ use Rattle.std.specs.List.{enumerate_from, list_all}
 use Rattle.std.proofs.lemmas.Bool.{and_parts}
 use Rattle.std.proofs.lemmas.List.{append-nil}
 use Rattle.msh_read.specs.declared.fault.MshKind.{MshKind}
-use Rattle.msh_read.specs.code_steps.Front.{Front}
+use Rattle.msh_read.specs.steps.Front.{Front}
 use Rattle.msh_read.specs.Reading.{at_line}
-use Rattle.msh_read.specs.code_steps.LinesRead.{after}
-use Rattle.msh_read.specs.code_steps.LineByLine.{step}
-use Rattle.msh_read.specs.Steps.{◌>>=◌}
+use Rattle.msh_read.specs.steps.LinesRead.{after}
+use Rattle.msh_read.specs.steps.LineByLine.{step}
+use Rattle.msh_read.specs.Trying.{◌>>=◌}
 use Rattle.msh_write.specs.Text.{counted_section}
 
 -- the front with these lines behind it

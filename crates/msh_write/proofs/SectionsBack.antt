@@ -12,10 +12,10 @@ use Rattle.msh_read.specs.declared.stand.Counted.{Counted}
 use Rattle.msh_read.specs.declared.stand.Counted.TheVariants.{Names, Nodes}
 use Rattle.msh_read.specs.declared.stand.Stand.{Stand}
 use Rattle.msh_read.specs.declared.stand.Stand.TheVariants.{Outside, Count, Entries}
-use Rattle.msh_read.specs.code_steps.Front.{Front, nothing_read}
+use Rattle.msh_read.specs.steps.Front.{Front, nothing_read}
 use Rattle.msh_read.specs.GroupNames.{GroupName}
 use Rattle.msh_read.specs.Lines.{closes, count_of, format_of, header_of}
-use Rattle.msh_read.specs.code_steps.LineByLine.{at, begun, count_read, counted_read, end_read, enough, entry_read, format_begun, format_end_read, format_read, header_read, name_read, names_begun, next_read, node_read, nodes_begun, step}
+use Rattle.msh_read.specs.steps.LineByLine.{at, begun, count_read, counted_read, end_read, enough, entry_read, format_begun, format_end_read, format_read, header_read, name_read, names_begun, next_read, node_read, nodes_begun, step}
 use Rattle.msh_write.specs.Text.{counted_section, format_lines, name_line, node_line, item_lines}
 use Rattle.msh_write.proofs.ElementsBack.{number_of-decimal}
 use Rattle.msh_write.proofs.EntriesBack.{is_near_place, is_readable, name-closes, name-read, node-closes, node-read}

@@ -13,11 +13,11 @@ use Rattle.ma_cells.specs.Tetrahedron.{Tetrahedron}
 use Rattle.ma_cells.proofs.Ascents.{is-ascending_of}
 use Rattle.ma_text.specs.Lines.{end_number}
 use Rattle.msh_read.specs.declared.stand.Stand.TheVariants.{Outside}
-use Rattle.msh_read.specs.code_steps.Front.{Front, nothing_read}
+use Rattle.msh_read.specs.steps.Front.{Front, nothing_read}
 use Rattle.msh_read.specs.GroupNames.{GroupName, name_cmp, name_cmp_total}
 use Rattle.msh_read.specs.Reading.{at_line, read_of}
-use Rattle.msh_read.specs.code_steps.LinesRead.{after, end_of, read_by_lines}
-use Rattle.msh_read.specs.Steps.{◌>>=◌}
+use Rattle.msh_read.specs.steps.LinesRead.{after, end_of, read_by_lines}
+use Rattle.msh_read.specs.Trying.{◌>>=◌}
 use Rattle.msh_read.proofs.NameOrder.{name_cmp-IsAntisymmetric}
 use Rattle.msh_read.proofs.SectionWise.{read_of-by_lines}
 use Rattle.msh_write.specs.ReadsBack.{raw_mark, raw_tet}

@@ -10,7 +10,7 @@ use Rattle.ma_cells.specs.Tetrahedron.{Tetrahedron}
 use Rattle.ma_cells.specs.declared.cell.Cell.{Cell}
 use Rattle.msh_read.specs.declared.raw.RawMark.{RawMark}
 use Rattle.msh_read.specs.Raw.{Raw}
-use Rattle.msh_read.specs.Steps.{◌>>=◌, ◌>>◌}
+use Rattle.msh_read.specs.Trying.{◌>>=◌, ◌>>◌}
 use Rattle.mesh_check.specs.Accepted.{apart}
 use Rattle.mesh_check.specs.declared.fault.MeshFault.{MeshFault}
 use Rattle.ma_cells.specs.Incidence.{is_on}

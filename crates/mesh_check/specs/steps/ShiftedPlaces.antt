@@ -2,7 +2,7 @@
 use Rattle.std.specs.Prelude.{ℕ, ◌+◌, if◌then◌else◌, List, Option, Some, None, Result, Ok}
 use Rattle.ma_geom.specs.Coordinates.{Coordinates}
 use Rattle.msh_read.specs.Raw.{node_at}
-use Rattle.msh_read.specs.Steps.{◌>>=◌, or_fault}
+use Rattle.msh_read.specs.Trying.{◌>>=◌, or_fault}
 use Rattle.mesh_check.specs.declared.fault.MeshFault.{MeshFault}
 use Rattle.mesh_check.specs.declared.fault.MeshFault.TheVariants.{TooFar}
 use Rattle.mesh_check.specs.Places.{is_in_range, shifted}

@@ -7,7 +7,7 @@ use Rattle.ma_cells.specs.Meshes.{corner_sets}
 use Rattle.ma_cells.specs.Tetrahedron.{Tetrahedron, tetrahedron_of}
 use Rattle.msh_read.specs.declared.raw.RawTet.{RawTet}
 use Rattle.msh_read.specs.Raw.{Raw}
-use Rattle.msh_read.specs.Steps.{◌>>=◌, ◌>>◌, check, each, or_fault}
+use Rattle.msh_read.specs.Trying.{◌>>=◌, ◌>>◌, check, each, or_fault}
 use Rattle.mesh_check.specs.declared.fault.MeshFault.{MeshFault}
 use Rattle.mesh_check.specs.declared.fault.MeshFault.TheVariants.{NoTets, TooManyTets, SamePlace, Flat, Repeated}
 use Rattle.mesh_check.specs.Accepted.{most_accepted_tets, no_pair}

@@ -1,5 +1,5 @@
 use Rattle.std.proofs.Common.{◌≡◌, drop}
-use Rattle.msh_read.specs.Steps.{each}
+use Rattle.msh_read.specs.Trying.{each}
 use Rattle.msh_read.proofs.Each.{behind}
 use Rattle.mesh_check.specs.steps.ShiftedPlaces.{numbered_place}
 use Rattle.mesh_check.proofs.places.numbered_places.Given as goal

@@ -3,7 +3,7 @@ use Rattle.std.specs.Int.{w64}
 use Rattle.std.proofs.lemmas.Int.{to_z-of_z}
 use Rattle.std.proofs.lemmas.Result.{err_from_is_err_and}
 use Rattle.msh_read.specs.ElementLines.{position_of}
-use Rattle.msh_read.specs.Steps.{each}
+use Rattle.msh_read.specs.Trying.{each}
 use Rattle.msh_read.proofs.ElementNumbers.{walks_on, walk_stops}
 use Rattle.msh_read.proofs.elements.each_position.Goals as goal
 

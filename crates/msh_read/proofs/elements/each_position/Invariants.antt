@@ -1,6 +1,6 @@
 use Rattle.std.proofs.Common.{◌≡◌, drop, length}
 use Rattle.msh_read.specs.ElementLines.{position_of}
-use Rattle.msh_read.specs.Steps.{each}
+use Rattle.msh_read.specs.Trying.{each}
 use Rattle.msh_read.proofs.Each.{behind}
 use Rattle.msh_read.proofs.elements.each_position.Given as goal
 

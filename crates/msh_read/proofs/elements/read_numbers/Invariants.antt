@@ -2,7 +2,7 @@ use Rattle.std.proofs.Common.{◌≡◌, length}
 use Rattle.ma_text.specs.Words.{words_of}
 use Rattle.msh_read.specs.ElementLines.{numbers_of}
 use Rattle.msh_read.specs.Lines.{number_in_word}
-use Rattle.msh_read.specs.Steps.{each}
+use Rattle.msh_read.specs.Trying.{each}
 use Rattle.msh_read.proofs.Each.{behind}
 use Rattle.msh_read.proofs.elements.read_numbers.Given as goal
 

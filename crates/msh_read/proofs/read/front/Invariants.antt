@@ -1,6 +1,6 @@
 use Rattle.std.proofs.Common.{◌≡◌, length}
-use Rattle.msh_read.specs.code_steps.Front.{nothing_read}
-use Rattle.msh_read.specs.code_steps.LinesRead.{after}
+use Rattle.msh_read.specs.steps.Front.{nothing_read}
+use Rattle.msh_read.specs.steps.LinesRead.{after}
 use Rattle.msh_read.proofs.read.front.Given as goal
 
 abbrev pub invariant-loop-line : goal.invariant-loop-line

@@ -1,5 +1,5 @@
 use Rattle.std.proofs.Common.{rules}
-use Rattle.msh_read.specs.code_steps.LinesRead.{read_by_lines}
+use Rattle.msh_read.specs.steps.LinesRead.{read_by_lines}
 use Rattle.msh_read.proofs.SectionWise.{read_of-by_lines}
 use Rattle.msh_read.proofs.read.read_msh.Goals as goal
 

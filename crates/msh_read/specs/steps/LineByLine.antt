@@ -8,11 +8,11 @@ use Rattle.msh_read.specs.declared.stand.Counted.TheVariants.{Names, Nodes, Elem
 use Rattle.msh_read.specs.declared.stand.Stand.{Stand}
 use Rattle.msh_read.specs.declared.stand.Stand.TheVariants.{Outside, Skipped, Format, FormatEnd, Count, Entries}
 use Rattle.msh_read.specs.ElementLines.{RawElement, a_mark, a_tet, element_of}
-use Rattle.msh_read.specs.code_steps.Front.{Front}
+use Rattle.msh_read.specs.steps.Front.{Front}
 use Rattle.msh_read.specs.Lines.{header_of, closes, format_of, count_of}
 use Rattle.msh_read.specs.NameLines.{name_of}
 use Rattle.msh_read.specs.NodeLines.{node_of}
-use Rattle.msh_read.specs.Steps.{◌>>=◌, ◌>>◌, check}
+use Rattle.msh_read.specs.Trying.{◌>>=◌, ◌>>◌, check}
 
 -- ---- headers
 

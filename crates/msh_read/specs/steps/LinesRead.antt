@@ -11,9 +11,9 @@ use Rattle.msh_read.specs.GroupNames.{name_cmp}
 use Rattle.msh_read.specs.Raw.{Raw}
 use Rattle.msh_read.specs.Reading.{at_line}
 use Rattle.msh_read.specs.Sections.{NumberedLine}
-use Rattle.msh_read.specs.Steps.{◌>>=◌, ◌>>◌, check}
-use Rattle.msh_read.specs.code_steps.Front.{Front, nothing_read}
-use Rattle.msh_read.specs.code_steps.LineByLine.{step}
+use Rattle.msh_read.specs.Trying.{◌>>=◌, ◌>>◌, check}
+use Rattle.msh_read.specs.steps.Front.{Front, nothing_read}
+use Rattle.msh_read.specs.steps.LineByLine.{step}
 
 -- the front with all these lines behind it
 abbrev pub after : Front → List NumberedLine → Result Front MshFault

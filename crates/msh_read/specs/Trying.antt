@@ -1,4 +1,4 @@
--- Steps of reading, each of which may end in a fault.
+-- Steps one after another, each of which may end in a fault.
 use Rattle.std.specs.Prelude.{Bool, true, false, List, [], ◌∷◌, Option, Some, None, Result, Ok, Err}
 
 infixl 10 ◌>>=◌
