@@ -52,7 +52,7 @@ module _ {K : Type 0} {R : K → K → Ordering} (o : IsTotalOrder R) where
   all_below x y (z ∷ zs) e h = (o.trans x y z e h.0, all_below x y zs e h.1)
 
   -- what is below all items ties with none
-  has-below : (x : K) (zs : List K) → AllByRecursion (λ z. R x z ≡ Less) zs → has R x zs ≡ false
+  pub has-below : (x : K) (zs : List K) → AllByRecursion (λ z. R x z ≡ Less) zs → has R x zs ≡ false
   has-below x [] h = refl
   has-below x (z ∷ zs) h = rw (h.0, has-below x zs h.1)
 

@@ -12,4 +12,5 @@ pub mod Searches
 pub mod CellLists
 pub mod Passing
 pub mod SetItems
+pub mod SetOperations
 pub mod Members

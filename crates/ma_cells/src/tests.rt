@@ -163,6 +163,32 @@ fn a_set_contains_its_items_alone(rt: HostRuntime) -> Result<(), Fail> {
 }
 
 #[test]
+fn a_set_retains_what_passes(rt: HostRuntime) -> Result<(), Fail> {
+    let mut set = Ascending::gather(vec![in rt.alloc(); 1u32, 4, 6, 9]?);
+    set.retain(|item| item % 2 == 0);
+    assert_eq!(rt; set.as_slice(), [4u32, 6].as_slice());
+    Ok(())
+}
+
+#[test]
+fn a_union_has_the_items_of_both_in_order(rt: HostRuntime) -> Result<(), Fail> {
+    let first = Ascending::gather(vec![in rt.alloc(); 1u32, 3, 5, 9]?);
+    let second = Ascending::gather(vec![in rt.alloc(); 2u32, 3, 9, 10, 11]?);
+    let both = first.union(rt.alloc(), &second)?;
+    assert_eq!(rt; both.as_slice(), [1u32, 2, 3, 5, 9, 10, 11].as_slice());
+    Ok(())
+}
+
+#[test]
+fn a_difference_has_what_the_other_lacks(rt: HostRuntime) -> Result<(), Fail> {
+    let first = Ascending::gather(vec![in rt.alloc(); 1u32, 3, 5, 9, 12]?);
+    let second = Ascending::gather(vec![in rt.alloc(); 2u32, 3, 9]?);
+    let rest = first.difference(rt.alloc(), &second)?;
+    assert_eq!(rt; rest.as_slice(), [1u32, 5, 12].as_slice());
+    Ok(())
+}
+
+#[test]
 fn a_tetrahedron_holds_its_corners_alone(rt: HostRuntime) -> Result<(), Fail> {
     let (o, z, y, x) = (
         place(0, 0, 0)?,
