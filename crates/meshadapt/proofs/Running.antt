@@ -89,6 +89,15 @@ module _ (plan : Plan) (mesh : Batch) where
   halts X Y done rounds held new last s m t halt.Unput more before ran = unput done rounds held s m t more before ran
   halts X Y done rounds held new last s m t halt.Memory more before ran = tt
 
+-- ---- a line that could not be put
+pub line_halts : (X Y : Type 0) (line : List ℕ) (s t : Received) (why : Halt) → PutsLine {X = X} (Err why) line s t → PutsLine {X = Y} (Err why) line s t
+line_halts X Y line s t (halt.Unread file) h = h
+line_halts X Y line s t (halt.Refused refusal) h = h
+line_halts X Y line s t (halt.TooMany round stage count) h = h
+line_halts X Y line s t (halt.Unstored name) h = h
+line_halts X Y line s t halt.Unput h = h
+line_halts X Y line s t halt.Memory h = tt
+
 -- ---- the line of the mesh, and the rounds
 module _ (job : Job) (inputs : Inputs) where
   abbrev tail : List Act

@@ -1,6 +1,7 @@
 // The lines that a run prints, and the name of what it stores.
-ghost use Rattle.std.specs.Prelude.{◌≡◌, ◌++◌, IfOk, codes, string_bytes};
+ghost use Rattle.std.specs.Prelude.{◌≡◌, ◌++◌, IfOk, codes, length, string_bytes};
 ghost use Rattle.msh_read.specs.declared.fault.MshFault.TheVariants.{At};
+ghost use Rattle.msh_write.specs.Text.{nodes_of};
 ghost use Rattle.meshadapt.specs.declared.status.Refusal.TheVariants.{Accept, Mesh, Rounds};
 ghost use Rattle.meshadapt.specs.Printed.{fault_text, file_name, kind_text, mesh_line, read_fault_line, refused_line, round_line, too_many_line, usage_line, write_fault_line};
 ghost use Rattle.meshadapt.specs.steps.Running.{asked};
@@ -12,27 +13,27 @@ use ma_cells::Batch;
 use ma_geom::Memory;
 use mesh_check::MeshFault;
 use msh_read::{MshFault, MshKind};
-use msh_write::node_count;
 use std::alloc::Global;
 
-/// The line that tells the size of a mesh before its rounds, of whose file so many marks were loose.
+/// The line that tells the size of a mesh with so many nodes before its rounds, of whose file so many
+/// marks were loose.
 #[tactic(auto, unfolding(crate::specs::Printed::mesh_line))]
-pub fn mesh_line(alloc: Global, mesh: &Batch, loose: u64) -> Result<String, Memory>
+pub fn mesh_line(alloc: Global, mesh: &Batch, nodes: usize, loose: u64) -> Result<String, Memory>
+    requires { nodes ≡ length (nodes_of mesh.now.tets) }
     ensures { IfOk result (λ line. string_bytes line ≡ mesh_line mesh.now loose) }
 {
     let tets = mesh.tets.len();
-    let nodes = node_count(alloc, mesh.tets.as_slice())?;
     let marks = tagged_count(mesh.marks.as_slice());
     Ok(format!(in alloc; "mesh: tets {tets} nodes {nodes} marks {marks} loose {loose}\n")?)
 }
 
-/// The line that tells the size and the worst quality of a mesh after this round.
+/// The line that tells the size and the worst quality of a mesh with so many nodes after this round.
 #[tactic(auto, unfolding(crate::specs::Printed::round_line))]
-pub fn round_line(alloc: Global, round: u32, mesh: &Batch) -> Result<String, Memory>
+pub fn round_line(alloc: Global, round: u32, mesh: &Batch, nodes: usize) -> Result<String, Memory>
+    requires { nodes ≡ length (nodes_of mesh.now.tets) }
     ensures { IfOk result (λ line. string_bytes line ≡ round_line round mesh.now) }
 {
     let tets = mesh.tets.len();
-    let nodes = node_count(alloc, mesh.tets.as_slice())?;
     let worst = worst(mesh.tets.as_slice());
     Ok(format!(in alloc; "round {round}: tets {tets} nodes {nodes} worst {worst}\n")?)
 }

@@ -1,5 +1,6 @@
 // The rounds of a run, each with its line.
-ghost use Rattle.std.specs.Prelude.{◌≡◌, false};
+ghost use Rattle.std.specs.Prelude.{◌≡◌, IfOk, false};
+ghost use Rattle.msh_write.specs.Text.{nodes_of};
 ghost use Rattle.meshadapt.specs.Printed.{mesh_line, round_line};
 ghost use Rattle.meshadapt.specs.steps.Fetching.{inputs_of};
 ghost use Rattle.meshadapt.specs.steps.Running.{Begins, PutsLine, RunsRound, RunsRounds, asked};
@@ -9,26 +10,45 @@ use crate::halt::Halt;
 use crate::lines::{mesh_line, round_line};
 use crate::putting::put_line;
 use crate::words::Job;
-use ma_cells::Batch;
+use ma_cells::{Ascending, Batch};
+use ma_geom::Place;
 use ma_io::Sink;
+use msh_write::nodes_of;
 use one_mesh::{OneFault, OneMesh};
 use size_marks::SizeField;
 use std::alloc::Global;
 
-/// Puts the line of a mesh before its rounds, of whose file so many marks were loose.
-fn put_mesh<S: Sink>(alloc: Global, mesh: &Batch, loose: u64, out: &mut S) -> Result<(), Halt>
-    ensures { PutsLine result (mesh_line mesh.now loose) (S.received out.old) (S.received out.new) }
+/// Puts the line of a mesh before its rounds, of whose file so many marks were loose. The answer is the
+/// nodes of the mesh, here and below.
+fn put_mesh<S: Sink>(
+    alloc: Global,
+    mesh: &Batch,
+    loose: u64,
+    out: &mut S,
+) -> Result<Ascending<Place>, Halt>
+    ensures line { PutsLine result (mesh_line mesh.now loose) (S.received out.old) (S.received out.new) }
+    ensures nodes { IfOk result (λ nodes. nodes ≡ nodes_of mesh.now.tets) }
 {
-    let line = mesh_line(alloc, mesh, loose)?;
-    put_line(out, line.as_bytes())
+    let nodes = nodes_of(alloc, mesh.tets.as_slice())?;
+    let line = mesh_line(alloc, mesh, nodes.len(), loose)?;
+    put_line(out, line.as_bytes())?;
+    Ok(nodes)
 }
 
 /// Puts the line of a mesh after this round.
-fn put_round<S: Sink>(alloc: Global, round: u32, mesh: &Batch, out: &mut S) -> Result<(), Halt>
-    ensures { PutsLine result (round_line round mesh.now) (S.received out.old) (S.received out.new) }
+fn put_round<S: Sink>(
+    alloc: Global,
+    round: u32,
+    mesh: &Batch,
+    out: &mut S,
+) -> Result<Ascending<Place>, Halt>
+    ensures line { PutsLine result (round_line round mesh.now) (S.received out.old) (S.received out.new) }
+    ensures nodes { IfOk result (λ nodes. nodes ≡ nodes_of mesh.now.tets) }
 {
-    let line = round_line(alloc, round, mesh)?;
-    put_line(out, line.as_bytes())
+    let nodes = nodes_of(alloc, mesh.tets.as_slice())?;
+    let line = round_line(alloc, round, mesh, nodes.len())?;
+    put_line(out, line.as_bytes())?;
+    Ok(nodes)
 }
 
 /// One round of a job, with its line.
@@ -39,11 +59,12 @@ fn run_round<S: Sink>(
     round: u32,
     mesh: &mut OneMesh,
     out: &mut S,
-) -> Result<(), Halt>
+) -> Result<Ascending<Place>, Halt>
     requires spent { mesh.old.spent ≡ false }
     requires collapses { job.now.collapses ≡ 0 }
     requires swaps { job.now.swaps ≡ 0 }
-    ensures { RunsRound result round (record { field = field.now; collapses = job.now.collapses; swaps = job.now.swaps }) mesh.old.mesh mesh.new (S.received out.old) (S.received out.new) }
+    ensures runs { RunsRound result round (record { field = field.now; collapses = job.now.collapses; swaps = job.now.swaps }) mesh.old.mesh mesh.new (S.received out.old) (S.received out.new) }
+    ensures nodes { IfOk result (λ nodes. nodes ≡ nodes_of mesh.new.mesh.tets) }
 {
     match mesh.adapt(alloc, field, round, job.collapses, job.swaps) {
         Ok(()) => put_round(alloc, round, mesh.batch(), out),
@@ -62,23 +83,26 @@ fn run_round<S: Sink>(
     }
 }
 
-/// All rounds of a job from the first on, each with its line.
+/// All rounds of a job from the first on, each with its line, of a mesh with these nodes.
 fn run_rounds<S: Sink>(
     alloc: Global,
     field: &SizeField,
     job: &Job,
+    mut nodes: Ascending<Place>,
     mesh: &mut OneMesh,
     out: &mut S,
-) -> Result<(), Halt>
+) -> Result<Ascending<Place>, Halt>
     requires spent { mesh.old.spent ≡ false }
     requires collapses { job.now.collapses ≡ 0 }
     requires swaps { job.now.swaps ≡ 0 }
-    ensures { RunsRounds result (record { field = field.now; collapses = job.now.collapses; swaps = job.now.swaps }) job.now.rounds mesh.old.mesh mesh.new (S.received out.old) (S.received out.new) }
+    requires nodes { nodes ≡ nodes_of mesh.old.mesh.tets }
+    ensures runs { RunsRounds result (record { field = field.now; collapses = job.now.collapses; swaps = job.now.swaps }) job.now.rounds mesh.old.mesh mesh.new (S.received out.old) (S.received out.new) }
+    ensures nodes { IfOk result (λ nodes. nodes ≡ nodes_of mesh.new.mesh.tets) }
 {
     for done in 0..job.rounds {
-        run_round(alloc, field, job, done + 1, mesh, out)?;
+        nodes = run_round(alloc, field, job, done + 1, mesh, out)?;
     }
-    Ok(())
+    Ok(nodes)
 }
 
 /// Puts the line of the mesh, and runs all rounds of the job.
@@ -87,14 +111,15 @@ pub fn adapt_mesh<S: Sink>(
     job: &Job,
     fetched: &mut Fetched,
     out: &mut S,
-) -> Result<(), Halt>
+) -> Result<Ascending<Place>, Halt>
     requires spent { fetched.old.mesh.spent ≡ false }
     requires collapses { job.now.collapses ≡ 0 }
     requires swaps { job.now.swaps ≡ 0 }
     ensures begins { Begins result (asked job.now) (inputs_of fetched.old) fetched.new.mesh (S.received out.old) (S.received out.new) }
     ensures names { fetched.new.names.items ≡ fetched.old.names.items }
+    ensures nodes { IfOk result (λ nodes. nodes ≡ nodes_of fetched.new.mesh.mesh.tets) }
 {
-    put_mesh(alloc, fetched.mesh.batch(), fetched.loose, out)?;
-    run_rounds(alloc, &fetched.field, job, &mut fetched.mesh, out)?;
-    Ok(())
+    let before = put_mesh(alloc, fetched.mesh.batch(), fetched.loose, out)?;
+    let nodes = run_rounds(alloc, &fetched.field, job, before, &mut fetched.mesh, out)?;
+    Ok(nodes)
 }

@@ -1,14 +1,15 @@
 // Stores the mesh of a run.
 ghost use Rattle.std.specs.Prelude.{◌≡◌, ◌++◌, codes, string_bytes};
-ghost use Rattle.msh_write.specs.Text.{text_of};
+ghost use Rattle.msh_write.specs.Text.{nodes_of, text_of};
 ghost use Rattle.meshadapt.specs.steps.Running.{StoresOne};
 
 use crate::halt::Halt;
 use crate::lines::mesh_name;
-use ma_cells::Batch;
+use ma_cells::{Ascending, Batch};
+use ma_geom::Place;
 use ma_io::{Depot, StoreFault};
 use msh_read::Name;
-use msh_write::write_union;
+use msh_write::write_union_with;
 use std::alloc::Global;
 
 fn store_file<D: Depot>(depot: &mut D, name: String, bytes: &[u8]) -> Result<(), Halt>
@@ -21,18 +22,20 @@ fn store_file<D: Depot>(depot: &mut D, name: String, bytes: &[u8]) -> Result<(),
     }
 }
 
-/// Stores the text of a mesh with these names under a name that begins with `out`. Both are made
+/// Stores the text of a mesh with these nodes and names under a name that begins with `out`. Both are made
 /// before anything is stored.
 pub fn store_mesh<D: Depot>(
     alloc: Global,
     depot: &mut D,
     mesh: &Batch,
+    nodes: &Ascending<Place>,
     names: &[Name],
     out: &str,
 ) -> Result<(), Halt>
+    requires { nodes.now ≡ nodes_of mesh.now.tets }
     ensures { StoresOne result (out.now ++ codes ".msh") (text_of mesh.now names.now) (D.held depot.old) (D.held depot.new) }
 {
     let name = mesh_name(alloc, out)?;
-    let text = write_union(alloc, mesh, names)?;
+    let text = write_union_with(alloc, mesh, nodes, names)?;
     store_file(depot, name, text.as_slice())
 }

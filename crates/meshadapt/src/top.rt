@@ -30,11 +30,12 @@ fn run_job<D: Depot, S: Sink>(
     ensures { Runs result (asked job.now) (seen (D.held depot.old) (S.received out.old)) (seen (D.held depot.new) (S.received out.new)) }
 {
     let mut fetched = fetch_inputs(alloc, depot, job)?;
-    adapt_mesh(alloc, job, &mut fetched, out)?;
+    let nodes = adapt_mesh(alloc, job, &mut fetched, out)?;
     store_mesh(
         alloc,
         depot,
         fetched.mesh.batch(),
+        &nodes,
         fetched.names.as_slice(),
         job.out,
     )?;

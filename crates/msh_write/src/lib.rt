@@ -12,7 +12,7 @@ mod union;
 mod words;
 
 pub use elements::is_tagged;
-pub use nodes::{node_count, nodes_of};
+pub use nodes::nodes_of;
 pub use part::write_part;
 pub use union::{write_union, write_union_with};
 

@@ -1,5 +1,5 @@
 // Nodes and their numbers.
-ghost use Rattle.std.specs.Prelude.{◌≡◌, true, All, IfOk, length};
+ghost use Rattle.std.specs.Prelude.{◌≡◌, true, All, IfOk};
 ghost use Rattle.std.specs.List.Sorted.{IsStrictlySortedBy};
 ghost use Rattle.ma_geom.specs.Coordinates.{place_cmp};
 ghost use Rattle.ma_cells.specs.Ascending.{are_ascending};
@@ -19,14 +19,6 @@ pub fn nodes_of(alloc: Global, tets: &[Tet]) -> Result<Ascending<Place>, Memory>
         corners.extend_from_slice(&tet.corners())?;
     }
     Ok(Ascending::gather(corners))
-}
-
-/// How many nodes a mesh with these tetrahedra has.
-pub fn node_count(alloc: Global, tets: &[Tet]) -> Result<usize, Memory>
-    ensures { IfOk result (λ count. count ≡ length (nodes_of tets.now)) }
-{
-    let nodes = nodes_of(alloc, tets)?;
-    Ok(nodes.len())
 }
 
 /// The number of a node, which is its place among the nodes, counted from 1. What isn't among them has

@@ -8,5 +8,5 @@ use Rattle.meshadapt.proofs.lines.round_line.Goals as goal
 pub returns : goal.returns
 unfolding round_line
 returns c =
-    rw (c.in_ok-format.ensures.ok, c.len-tets.ensures, c.in_ok-nodes.ensures, c.worst-worst.ensures, c.as_slice.ensures.items, c.as_slice-2.ensures.items)
+    rw (c.in_ok-format.ensures.ok, c.len-tets.ensures, c.requires, c.worst-worst.ensures, c.as_slice.ensures.items)
     (sym (nine_pieces (codes "round ") (decimal c.args.round) (codes ": tets ") (decimal (length c.args.mesh.now.tets)) (codes " nodes ") (decimal (length (nodes_of c.args.mesh.now.tets))) (codes " worst ") (decimal (worst c.args.mesh.now.tets)) (10 ∷ [])))
