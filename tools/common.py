@@ -49,8 +49,8 @@ class Arguments(argparse.ArgumentParser):
 
     def __init__(self, description: str, example: str):
         super().__init__(description=description, epilog=f"example:\n  {example}", formatter_class=argparse.RawDescriptionHelpFormatter)
-        # `-1e-3` and `-inf` are numbers as well.
-        self._negative_number_matcher = re.compile(r"^-(\d+\.?\d*|\.\d+)([eE][-+]?\d+)?$|^-inf$")
+        # `-1e-3`, `-inf` and the axis `-x` are values and no options.
+        self._negative_number_matcher = re.compile(r"^-(\d+\.?\d*|\.\d+)([eE][-+]?\d+)?$|^-inf$|^-[xyz]$")
 
     def error(self, message: str):
         self.exit(2, f"{self.prog}: {message} (see {self.prog} --help)\n")

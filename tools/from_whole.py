@@ -111,6 +111,9 @@ def main():
     if version == "2.2":
         write_msh(given.output, mesh, repr)
     else:
+        if given.output.endswith((".xdmf", ".xmf")) and given.only != "points" and len(mesh.cells[0]):
+            progress(f"{len(mesh.cells[0])} points are left out, since meshio doesn't read them again beside other cells of XDMF")
+            mesh.cells[0] = cells_of(0, [], [], [])
         write_by_meshio(given.output, mesh, blocks)
     counts = ", ".join(f"{len(cells)} {word}" for word, cells in zip(WORDS[::-1], mesh.cells[::-1]) if len(cells))
     print(f"stored: {given.output}{f' (MSH {version})' if version else ''}: {counts}, {len(mesh.points)} nodes")

@@ -43,10 +43,11 @@ def boxes_near(near: list, uniform: float) -> list:
 
 
 def whole_size(size: float, scale: Scale) -> int:
+    """The size in whole units. One past the largest stands for the largest, which is the range of a coordinate."""
     whole = round(size / scale.unit)
-    if not 1 <= whole <= LARGEST_COORDINATE:
-        raise Refusal(f"the size {size!r} is {size / scale.unit:.6g} whole units; sizes are 1 to {LARGEST_COORDINATE}")
-    return whole
+    if whole < 1:
+        raise Refusal(f"the size {size!r} is less than a whole unit, which is {scale.unit!r}")
+    return min(whole, LARGEST_COORDINATE)
 
 
 def whole_bound(bound: float, axis: int, outwards, scale: Scale) -> int:
