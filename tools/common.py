@@ -75,6 +75,12 @@ def progress(text: str):
     print(f"{os.path.basename(sys.argv[0])}: {text}", file=sys.stderr, flush=True)
 
 
+def check_output(given_input: str, output: str):
+    """Refuses to write over what was read."""
+    if os.path.exists(output) and os.path.exists(given_input) and os.path.samefile(given_input, output):
+        raise Refusal(f"{output}: is read and can't be written over")
+
+
 def numbers_told(numbers) -> str:
     """The first few numbers and how many more there are."""
     told = ", ".join(str(number) for number in numbers[:8])
@@ -209,7 +215,7 @@ def read_by_meshio(path: str) -> Mesh:
             read = meshio.read(path)
     except (Exception, SystemExit) as fault:
         reason = one_line(said.getvalue() if isinstance(fault, SystemExit) else fault)
-        hint = "; saved as MSH 2.2 it can be read, as by: gmsh IN -save -format msh2 -o OUT.msh" if path.endswith(".msh") else ""
+        hint = "; saved as MSH 2.2 it can be read, as by: gmsh IN -save -save_all -format msh2 -o OUT.msh" if path.endswith(".msh") else ""
         raise Refusal(f"{path}: meshio can't read it ({reason}){hint}") from None
     points = np.zeros((len(read.points), 3))
     points[:, : read.points.shape[1]] = read.points

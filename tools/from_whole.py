@@ -87,6 +87,7 @@ def write_by_meshio(path: str, mesh: Mesh, blocks: list):
 
 def main():
     given = arguments()
+    check_output(given.input, given.output)
     path = scale_path(given.input) if given.scale is None else given.scale
     if given.scale is None and not os.path.exists(path):
         raise Refusal(f"there is no {path}: name the scale that to_whole.py stored, as by --scale whole.scale.json")

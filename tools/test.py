@@ -208,6 +208,9 @@ def formats_read_back(model: str):
         held = [key for key in expected if key[0] > 0 or ending != "xdmf"]
         agree({key: expected[key] for key in held}, measures(again), 0.0)
         agree({key: model_measures[key] for key in held}, measures(again), read_scale(scale_file).spacing)
+        if ending == "vtu":
+            done("to_whole", out, model.replace(".msh", "_again.msh"), "--rounds", 0)
+            agree(expected, measures(real(model.replace(".msh", "_again.msh"), read_scale(model.replace(".msh", "_again.scale.json")))), read_scale(scale_file).spacing)
         if ending.endswith("msh"):
             assert sorted(again.names) == sorted(read_mesh(stored).names), out
 
@@ -430,6 +433,7 @@ def faults_take_one_line(folder: str):
     for name in ("to_whole", "part", "picture"):
         words = [str(word).replace("missing", "cut") for word in cases[name]]
         assert "cut.msh: not a whole MSH 2.2 file" in refused(name, *words)
+    assert "written over" in refused("to_whole", f"{folder}/dyadic.msh", f"{folder}/../{Path(folder).name}/dyadic.msh")
     assert "a folder" in refused("to_whole", f"{folder}/dyadic.msh", f"{folder}/no/such/a folder/out.msh")
 
 

@@ -13,7 +13,8 @@ the scale beside it (OUT.scale.json). Coordinates become multiples of 2^N for N
 rounds, since each round of refinement takes midpoints and so halves the grid. The
 spacing of the grid is a power of two, as fine as the largest coordinate 2^30
 allows, or what is given. Refused is what rounding would break: nodes that fall
-together, and tetrahedra that become flat or turn over."""
+together, and tetrahedra that become flat or turn over. Nodes and tetrahedra are told
+by their numbers in IN's order, from 1; tetrahedra keep their order in OUT."""
 
 
 def arguments():
@@ -70,6 +71,9 @@ def check_input(path: str, mesh: Mesh):
         raise Refusal(f"{path}: {count} tetrahedra; meshadapt takes {MOST_TETRAHEDRA} at most")
     if not np.isfinite(mesh.points).all():
         raise Refusal(f"{path}: coordinates that are no numbers")
+    tags = np.concatenate([values for cells in mesh.cells for values in (cells.physical, cells.geometrical)])
+    if np.abs(tags).max() >= 2**31:
+        raise Refusal(f"{path}: a tag is past 32 bits: {tags[np.abs(tags).argmax()]}")
     listed = np.sort(mesh.tetrahedra, axis=1)
     pair = first_equal(listed)
     if pair is not None:
@@ -165,6 +169,7 @@ def way_out(mesh: Mesh, signs: np.ndarray, spacing: float, grid: int) -> str:
 
 def main():
     given = arguments()
+    check_output(given.input, given.output)
     progress(f"reading {given.input}")
     read = read_mesh(given.input)
     check_input(given.input, read)
@@ -186,7 +191,10 @@ def main():
 
     origin, steps = placed(mesh.points, spacing)
     scale = Scale(spacing / 2**given.grid, origin.tolist(), given.grid)
-    mesh.names = [name for name in mesh.names if 0 <= name[0] <= 3 and not set('"\n\r') & set(name[2])]
+    spelled = [name for name in mesh.names if 0 <= name[0] <= 3 and not set('"\n\r') & set(name[2])]
+    if len(spelled) < len(mesh.names):
+        left_out.append(f"{len(mesh.names) - len(spelled)} names with a quotation mark or of another dimension")
+    mesh.names = spelled
     lengths = edge_lengths(mesh.points, mesh.tetrahedra)
     move = np.linalg.norm(origin + steps * spacing - mesh.points, axis=1).max()
     mesh.points = steps * 2**given.grid
