@@ -326,12 +326,15 @@ def hidden_flatness_is_seen(folder: str):
 
 def what_is_left_out_is_counted(folder: str):
     points = [*CORNER, (9, 9, 9), (8, 8, 8), (7, 7, 7), (6, 7, 7)]
-    elements = [(3, (1, 1), (5, 6, 7, 8)), (2, (1, 1), (5, 6, 7)), (2, (0, 0), (1, 2, 3)), (4, (1, 1), (1, 2, 3, 4))]
+    points += [(0, 0, -4)]
+    elements = [(3, (1, 1), (5, 6, 7, 8)), (2, (1, 1), (5, 6, 7)), (2, (0, 0), (1, 2, 3)), (2, (1, 1), (1, 4, 9)), (1, (1, 1), (4, 9))]
+    elements += [(4, (1, 1), (1, 2, 3, 4)), (4, (1, 1), (1, 2, 3, 9))]
     as_msh(f"{folder}/more.msh", points, elements)
     told = done("to_whole", f"{folder}/more.msh", f"{folder}/more_whole.msh")
     assert "left out: 1 quad, 4 nodes of no tetrahedron, 1 triangles on such nodes" in told and "without tags: 1 triangles" in told, told
+    assert "loose: 1 triangles" in told and "loose: 1 lines" in told, told
     mesh = read_mesh(f"{folder}/more_whole.msh")
-    assert [len(cells) for cells in mesh.cells] == [0, 0, 1, 1] and len(mesh.points) == 4
+    assert [len(cells) for cells in mesh.cells] == [0, 1, 2, 2] and len(mesh.points) == 5
 
 
 def large_volumes_are_exact(folder: str):

@@ -2,6 +2,7 @@
 """Scales, shifts and rounds a mesh to whole coordinates, in the MSH 2.2 profile that meshadapt reads."""
 from __future__ import annotations
 
+import itertools
 import math
 from fractions import Fraction
 
@@ -86,6 +87,16 @@ def first_equal(rows: np.ndarray):
     same = np.flatnonzero((rows[order[1:]] == rows[order[:-1]]).all(axis=1))
     pairs = [tuple(sorted((int(order[i]), int(order[i + 1])))) for i in same]
     return min(pairs) if pairs else None
+
+
+def loose(mesh: Mesh, dimension: int) -> int:
+    """How many lines or triangles are no edges or faces of tetrahedra."""
+    count = len(mesh.points)
+    # Up to four nodes for each tetrahedron keep these numbers within 63 bits.
+    weights = np.array([count**i for i in range(dimension + 1)], dtype=np.int64)
+    choices = itertools.combinations(range(4), dimension + 1)
+    held = np.concatenate([np.sort(mesh.tetrahedra[:, corners], axis=1) @ weights for corners in choices])
+    return int(np.count_nonzero(~np.isin(np.sort(mesh.cells[dimension].corners, axis=1) @ weights, held)))
 
 
 def signs_of(points: np.ndarray, tetrahedra: np.ndarray) -> np.ndarray:
@@ -208,6 +219,9 @@ def main():
         without = np.count_nonzero((cells.physical == 0) & (cells.geometrical == 0))
         if without:
             print(f"without tags: {without} {word}, which meshadapt doesn't write")
+    for dimension in (1, 2):
+        if loose(mesh, dimension):
+            print(f"loose: {loose(mesh, dimension)} {WORDS[dimension]} that are no {('edges', 'faces')[dimension - 1]} of tetrahedra, which meshadapt drops")
     print(f"scale: a whole unit is {scale.unit!r}, the grid {spacing!r}, the largest coordinate {int(mesh.points.max())}")
     print(f"edges: {lengths.min():.6g} to {lengths.max():.6g}, in whole units {lengths.min() / scale.unit:.0f} to {lengths.max() / scale.unit:.0f}")
     print(f"rounding: no node merged, no tetrahedron flat or turned over, largest move {move:.3g}")
