@@ -453,9 +453,11 @@ def wrapper_explains(folder: str):
     assert "--plain --mesh M --uniform H" in ended.stderr, ended.stderr
     words = ("--uniform", 1, "--rounds", 0, "--collapse", 0, "--swap", 0, "--out", f"{folder}/wrapped_out")
     as_msh(f"{folder}/fraction.msh", [*CORNER[:3], (0, 0, 0.5)], [(4, (0, 1), (1, 2, 3, 4))])
-    ended = ran(wrapper, "--plain", "--mesh", f"{folder}/fraction.msh", *words)
-    assert (ended.returncode, ended.stdout) == (4, "refused: mesh line 9: not whole\n"), ended
-    assert "tools/to_whole.py" in ended.stderr, ended.stderr
+    Path(f"{folder}/newer.msh").write_text("$MeshFormat\n4.1 0 8\n$EndMeshFormat\n")
+    for name, told in (("fraction", "line 9: not whole"), ("newer", "line 2: other version")):
+        ended = ran(wrapper, "--plain", "--mesh", f"{folder}/{name}.msh", *words)
+        assert (ended.returncode, ended.stdout) == (4, f"refused: mesh {told}\n"), ended
+        assert "tools/to_whole.py" in ended.stderr, ended.stderr
     ended = ran(wrapper, "--plain", "--mesh", f"{folder}/missing.msh", *words)
     assert (ended.returncode, ended.stdout, ended.stderr) == (4, "refused: mesh: missing\n", ""), ended
     as_msh(f"{folder}/corner.msh", CORNER, [(4, (0, 1), (1, 2, 3, 4))])
