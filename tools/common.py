@@ -69,6 +69,10 @@ def run(main):
         sys.exit(f"{name}: memory ran out")
     except KeyboardInterrupt:
         sys.exit(f"{name}: interrupted")
+    except Exception as fault:
+        if os.environ.get("MESHADAPT_TRACE"):
+            raise
+        sys.exit(f"{name}: {type(fault).__name__}: {one_line(fault)} (with MESHADAPT_TRACE=1 it tells where)")
 
 
 def progress(text: str):
