@@ -19,7 +19,7 @@ for needed in ("numpy", "meshio"):
     if importlib.util.find_spec(needed) is None:
         if os.path.exists(DEBIAN_PYTHON) and os.path.realpath(sys.executable) != os.path.realpath(DEBIAN_PYTHON):
             os.execv(DEBIAN_PYTHON, [DEBIAN_PYTHON, *sys.argv])
-        sys.exit(f"{Path(sys.argv[0]).stem}: needs {needed}, as by: apt-get install python3-{needed}")
+        sys.exit(f"{os.path.basename(sys.argv[0])}: needs {needed}, as by: apt-get install python3-{needed}")
 
 import numpy as np
 

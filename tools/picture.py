@@ -165,12 +165,12 @@ def stored(path: str, picture: np.ndarray, title: str, named: tuple | None):
 
 def main():
     given = arguments()
+    progress(f"reading {given.input}")
+    mesh = read_mesh(given.input)
     if importlib.util.find_spec("matplotlib") is None:
         raise Refusal("needs matplotlib, as by: apt-get install python3-matplotlib")
     import matplotlib
 
-    progress(f"reading {given.input}")
-    mesh = read_mesh(given.input)
     tetrahedra = mesh.tetrahedra
     kept = np.ones(len(tetrahedra), dtype=bool)
     if given.cut:
