@@ -13,7 +13,7 @@ import re
 import sys
 from pathlib import Path
 
-# Debian's packages are seen by Debian's python3 alone, which needn't be the first on the path.
+# Debian's packages are seen by Debian's python3 alone, which needn't be the first on the path. So the tools import numpy after this module.
 DEBIAN_PYTHON = "/usr/bin/python3"
 for needed in ("numpy", "meshio"):
     if importlib.util.find_spec(needed) is None:
@@ -131,6 +131,15 @@ class Mesh:
         return self.cells[3].corners
 
 
+def with_points(mesh: Mesh, kept: np.ndarray) -> Mesh:
+    """The mesh with the points that are marked true alone, and with the cells on them."""
+    position_of = np.cumsum(kept) - 1
+    cells = [cells.only(kept[cells.corners].all(axis=1)) for cells in mesh.cells]
+    for some in cells:
+        some.corners = position_of[some.corners]
+    return Mesh(mesh.points[kept], cells, mesh.names, mesh.left_out)
+
+
 def cells_of(dimension: int, corners, physical, geometrical, further=None) -> Cells:
     count = len(corners)
     shaped = np.array(corners, dtype=np.int64).reshape(count, dimension + 1)
@@ -154,21 +163,10 @@ def read_msh(path: str) -> Mesh:
     """Reads an MSH 2.2 file in ASCII. meshio would lose the tags that tell parts, and one of two names that are spelled alike."""
     with open(path, encoding="utf-8", errors="surrogateescape") as file:
         lines = file.read().split("\n")
-    sections = {}
-    names, nodes, elements = [], None, None
-    position = 0
     try:
-        while position < len(lines):
-            header = lines[position].strip()
-            position += 1
-            if not header.startswith("$"):
-                continue
-            begin = position
-            while lines[position].strip() != "$End" + header[1:]:
-                position += 1
-            sections[header] = (begin, position)
-            position += 1
-        for line in _entries(lines, sections, "$PhysicalNames"):
+        sections = _sections(lines)
+        names = []
+        for line in _entries(lines, sections, "$PhysicalNames") if "$PhysicalNames" in sections else []:
             dimension, number, text = line.split(None, 2)
             names.append((int(dimension), int(number), text.strip()[1:-1]))
         nodes = [line.split() for line in _entries(lines, sections, "$Nodes")]
@@ -176,18 +174,36 @@ def read_msh(path: str) -> Mesh:
         position_of = {int(node[0]): position for position, node in enumerate(nodes)}
         elements = [tuple(map(int, line.split())) for line in _entries(lines, sections, "$Elements")]
         cells, left_out = _cells_of_elements(elements, position_of)
-    except (ValueError, IndexError, KeyError) as fault:
+    except (ValueError, IndexError) as fault:
         raise Refusal(f"{path}: not a whole MSH 2.2 file ({one_line(fault)})") from None
     return Mesh(points, cells, names, left_out)
 
 
+def _sections(lines: list) -> dict:
+    """For each section's header the lines within it, from the first to the one past the last."""
+    sections = {}
+    position = 0
+    while position < len(lines):
+        header = lines[position].strip()
+        position += 1
+        if header.startswith("$"):
+            begin = position
+            while position < len(lines) and lines[position].strip() != "$End" + header[1:]:
+                position += 1
+            if position == len(lines):
+                raise ValueError(f"{header} has no end")
+            sections[header] = (begin, position)
+            position += 1
+    return sections
+
+
 def _entries(lines: list, sections: dict, header: str) -> list:
     if header not in sections:
-        return []
+        raise ValueError(f"there is no {header}")
     begin, end = sections[header]
     entries = [line for line in lines[begin:end] if line.strip()]
-    if len(entries) != int(entries[0]) + 1:
-        raise ValueError(f"{header} has {len(entries) - 1} lines and says {entries[0].strip()}")
+    if not entries or len(entries) != int(entries[0]) + 1:
+        raise ValueError(f"{header} has another number of lines than it says")
     return entries[1:]
 
 
@@ -202,7 +218,10 @@ def _cells_of_elements(elements: list, position_of: dict) -> tuple:
         dimension = MSH_TYPES.index(element[1])
         tags = element[3 : 3 + element[2]] + (0, 0)[: max(0, 2 - element[2])]
         corners, physical, geometrical, further = found[dimension]
-        corners.append([position_of[node] for node in element[3 + element[2] :]])
+        nodes = element[3 + element[2] :]
+        if len(nodes) != dimension + 1 or not all(node in position_of for node in nodes):
+            raise ValueError(f"element {element[0]} has the nodes {nodes}")
+        corners.append([position_of[node] for node in nodes])
         physical.append(tags[0])
         geometrical.append(tags[1])
         further.append(tags[2:])
@@ -218,7 +237,7 @@ def read_by_meshio(path: str) -> Mesh:
         with contextlib.redirect_stdout(said), contextlib.redirect_stderr(said):
             read = meshio.read(path)
     except (Exception, SystemExit) as fault:
-        reason = one_line(said.getvalue() if isinstance(fault, SystemExit) else fault)
+        reason = one_line(said.getvalue() if isinstance(fault, SystemExit) else f"{type(fault).__name__}: {fault}")
         hint = "; saved as MSH 2.2 it can be read, as by: gmsh IN -save -save_all -format msh2 -o OUT.msh" if path.endswith(".msh") else ""
         raise Refusal(f"{path}: meshio can't read it ({reason}){hint}") from None
     points = np.zeros((len(read.points), 3))

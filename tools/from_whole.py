@@ -2,7 +2,13 @@
 """Takes a mesh that meshadapt stored back to real units, in any format that meshio writes."""
 from __future__ import annotations
 
-from common import *
+import contextlib
+import io
+import os
+
+from common import Arguments, cells_of, check_output, KINDS, Mesh, one_line, progress, read_mesh, read_scale, Refusal, run, scale_path, with_points, WORDS, write_msh
+
+import numpy as np
 
 DESCRIPTION = """Takes the mesh X.msh, which meshadapt stored, back to real units and writes it in the
 format that OUT's ending tells: .vtu and .xdmf for ParaView, .msh for Gmsh, or any other
@@ -98,7 +104,13 @@ def main():
         raise Refusal(f"{given.input}: coordinates aren't whole, so this is no mesh of meshadapt")
     mesh.points = scale.to_real(mesh.points)
     if given.only:
-        mesh.cells = [cells if word == given.only else cells.only(np.zeros(len(cells), dtype=bool)) for word, cells in zip(WORDS, mesh.cells)]
+        mesh.cells = [cells if word == given.only else cells_of(dimension, [], [], []) for dimension, (word, cells) in enumerate(zip(WORDS, mesh.cells))]
+        held = np.zeros(len(mesh.points), dtype=bool)
+        for cells in mesh.cells:
+            held[cells.corners.ravel()] = True
+        mesh = with_points(mesh, held)
+        if not held.any():
+            raise Refusal(f"{given.input}: no {given.only}")
     blocks = blocks_of(mesh)
     version = None
     if given.output.endswith(".msh"):

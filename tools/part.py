@@ -2,11 +2,14 @@
 """Cuts a mesh into parts by METIS."""
 from __future__ import annotations
 
+import os
 import shutil
 import subprocess
 import tempfile
 
-from common import *
+from common import Arguments, progress, read_mesh, Refusal, run
+
+import numpy as np
 
 DESCRIPTION = """Cuts a mesh into P parts by METIS's program mpmetis, over the tetrahedra that share
 faces, and writes the partition file of meshadapt: one part number from 0 to P-1 a

@@ -2,7 +2,13 @@
 """Draws a mesh, or what is left of it behind a cut, as a PNG."""
 from __future__ import annotations
 
-from common import *
+import importlib.util
+import math
+import re
+
+from common import Arguments, determinants, edge_lengths, Mesh, progress, read_mesh, Refusal, run
+
+import numpy as np
 
 DESCRIPTION = """Draws the surface of a mesh as a PNG, with the edges of its tetrahedra, coloured by their
 quality, region or part. Quality is six times the volume over the cube of the longest

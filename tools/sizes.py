@@ -2,7 +2,10 @@
 """Writes a size file for meshadapt from sizes in real units."""
 from __future__ import annotations
 
-from common import *
+import math
+import sys
+
+from common import Arguments, LARGEST_COORDINATE, read_scale, Refusal, run, Scale
 
 DESCRIPTION = """Writes a size file for meshadapt from real units: the length that edges are to have,
 everywhere and within boxes. An edge longer than three halves of it is bisected.

@@ -3,7 +3,7 @@
 here="$(dirname "$(readlink -f "${BASH_SOURCE[0]}")")"
 for python in python3 /usr/bin/python3; do
     if "$python" -c 'from meshio import Mesh' 2>/dev/null; then
-        exec "$python" -B "$here/test.py" "$@"
+        exec "$python" -B "$here/tests.py" "$@"
     fi
 done
 echo "the tools can't be tested without meshio, as by: apt-get install python3-meshio"

@@ -2,11 +2,14 @@
 """Scales, shifts and rounds a mesh to whole coordinates, in the MSH 2.2 profile that meshadapt reads."""
 from __future__ import annotations
 
+import dataclasses
 import itertools
 import math
 from fractions import Fraction
 
-from common import *
+from common import Arguments, check_output, determinants, edge_lengths, LARGEST_COORDINATE, Mesh, MOST_ROUNDS, MOST_TETRAHEDRA, numbers_told, progress, read_mesh, Refusal, run, Scale, scale_path, six_volumes, with_points, WORDS, write_msh, write_scale
+
+import numpy as np
 
 DESCRIPTION = """Scales, shifts and rounds the mesh IN, in any format that meshio reads, to whole
 coordinates, and stores it as OUT in the MSH 2.2 profile that meshadapt reads, and
@@ -45,21 +48,16 @@ def tetrahedra_with_their_nodes(mesh: Mesh) -> tuple:
     """The mesh without nodes of no tetrahedron and without what stands on them, the nodes' numbers in the file, and what was left out in words."""
     used = np.zeros(len(mesh.points), dtype=bool)
     used[mesh.tetrahedra.ravel()] = True
+    kept = with_points(mesh, used)
     told = [f"{count} {kind}" for kind, count in mesh.left_out.items()]
     if not used.all():
         told.append(f"{np.count_nonzero(~used)} nodes of no tetrahedron")
-    position_of = np.cumsum(used) - 1
-    kept = []
-    for dimension, cells in enumerate(mesh.cells):
-        on_used = used[cells.corners].all(axis=1)
-        if not on_used.all():
-            told.append(f"{np.count_nonzero(~on_used)} {WORDS[dimension]} on such nodes")
-        cells = cells.only(on_used)
-        cells.corners = position_of[cells.corners]
+    for word, before, after in zip(WORDS, mesh.cells, kept.cells):
+        if len(after) < len(before):
+            told.append(f"{len(before) - len(after)} {word} on such nodes")
         # What tells parts is of the run that wrote the file.
-        cells.further = [()] * len(cells)
-        kept.append(cells)
-    return Mesh(mesh.points[used], kept, mesh.names, {}), np.flatnonzero(used) + 1, told
+        after.further = [()] * len(after)
+    return kept, np.flatnonzero(used) + 1, told
 
 
 def check_input(path: str, mesh: Mesh):

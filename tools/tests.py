@@ -1,11 +1,19 @@
 """Tests the tools from the command line, with the built program between them; test.sh runs it."""
 from __future__ import annotations
 
+import importlib.util
+import math
+import os
+import re
 import shutil
 import subprocess
+import sys
 import tempfile
+from pathlib import Path
 
-from common import *
+from common import determinants, edge_lengths, LARGEST_COORDINATE, Mesh, read_by_meshio, read_mesh, read_scale, Scale, scale_path, six_volumes, WORDS, write_scale
+
+import numpy as np
 
 TOOLS = Path(__file__).resolve().parent
 ROOT = TOOLS.parent
@@ -393,6 +401,16 @@ def parts_are_cell_data(folder: str):
         done("picture", f"{folder}/two.vtu", f"{folder}/two.png", "--colour", "part")
 
 
+def one_dimension_is_written_alone(folder: str):
+    # The fourth point of the tetrahedron isn't on the triangle.
+    as_msh(f"{folder}/alone.msh", CORNER, [(2, (5, 1), (1, 2, 3)), (4, (7, 1), (1, 2, 3, 4))])
+    write_scale(f"{folder}/alone.scale.json", Scale(1.0, [0.0, 0.0, 0.0], 0))
+    done("from_whole", f"{folder}/alone.msh", f"{folder}/alone.vtu", "--only", "triangles")
+    mesh = read_mesh(f"{folder}/alone.vtu")
+    assert [len(cells) for cells in mesh.cells] == [0, 0, 1, 0] and mesh.points.tolist() == [list(point) for point in CORNER[:3]]
+    assert "no lines" in refused("from_whole", f"{folder}/alone.msh", f"{folder}/none.vtu", "--only", "lines")
+
+
 def coordinates_come_back(folder: str):
     # Multiples of a power of two are taken to whole numbers and back without a change.
     points = [(0.5, -3, 7.25), (2.75, -3, 7.25), (0.5, 1, 7.25), (0.5, -3, 11)]
@@ -477,6 +495,7 @@ ONCE = (
     sizes_are_in_whole_units,
     size_files_are_taken,
     parts_are_cell_data,
+    one_dimension_is_written_alone,
     coordinates_come_back,
     groups_that_overlap_are_kept,
     help_shows_an_example,
