@@ -46,6 +46,8 @@ def entities_of_points(mesh: Mesh, blocks: list) -> np.ndarray:
 
 def lost_in_msh41(mesh: Mesh, blocks: list) -> str | None:
     """What MSH 4.1 as meshio writes it would lose."""
+    if any(tags for cells in mesh.cells for tags in cells.further):
+        return "the tags that tell parts"
     entities = set(map(tuple, entities_of_points(mesh, blocks).tolist()))
     for dimension, entity, cells in blocks:
         told = f"the {WORDS[dimension]} of entity {entity}"

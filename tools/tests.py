@@ -326,8 +326,8 @@ def faults_of_the_input_are_named(folder: str):
 
 
 def hidden_flatness_is_seen(folder: str):
-    # Exactly flat in the file's numbers, which floating point alone doesn't tell.
-    points = [(0.1, 0.2, 0.3), (1.1, 0.2, 0.3), (0.1, 1.7, 0.3), (0.7, 0.9, 0.3)]
+    # The last point is the middle of the two before it. Floating point gives a volume of -2e-15.
+    points = [(2.3, -1.2, 2.2), (-1.1, 2.6, 1.5), (-0.5, -1.5, -2.9), (-0.8, 0.55, -0.7)]
     as_msh(f"{folder}/slant.msh", points, [(4, (), (1, 2, 3, 4))])
     assert "tetrahedra 1 are flat" in refused("to_whole", f"{folder}/slant.msh", f"{folder}/slant_whole.msh")
 
@@ -397,6 +397,9 @@ def parts_are_cell_data(folder: str):
     assert mesh.cells[3].parts().tolist() == [0, 1] and mesh.cells[3].ghosts().tolist() == [1, 0]
     assert mesh.cells[2].parts().tolist() == [0] and mesh.cells[2].physical.tolist() == [7]
     assert mesh.points.tolist() == [[0, 0, 1], [0, 0, 2], [0, 1, 1], [1, 0, 1], [1, 1, 2]]
+    # A part's tags stay as they are where MSH 2.2 holds them.
+    assert "(MSH 2.2)" in done("from_whole", f"{folder}/two.p1.msh", f"{folder}/two.msh")
+    assert [cells.further for cells in read_mesh(f"{folder}/two.msh").cells[2:]] == [[(2, 1, 2)], [(2, 1, -2), (1, 2)]]
     if importlib.util.find_spec("matplotlib"):
         done("picture", f"{folder}/two.vtu", f"{folder}/two.png", "--colour", "part")
 
@@ -418,6 +421,34 @@ def coordinates_come_back(folder: str):
     done("to_whole", f"{folder}/dyadic.msh", f"{folder}/dyadic_whole.msh")
     done("from_whole", f"{folder}/dyadic_whole.msh", f"{folder}/dyadic.vtu")
     assert read_mesh(f"{folder}/dyadic.vtu").points.tolist() == [list(point) for point in points]
+
+
+def groups_of_newer_files_are_read(folder: str):
+    if importlib.util.find_spec("gmsh") is None:
+        return "gmsh isn't there"
+    import gmsh
+
+    gmsh.initialize()
+    gmsh.option.setNumber("General.Terminal", 0)
+    gmsh.model.occ.addBox(0, 0, 0, 1, 1, 1)
+    gmsh.model.occ.synchronize()
+    gmsh.model.mesh.generate(3)
+    groups = ((2, [1], "one"), (2, [1, 2], "two"), (3, [1], "body"))
+    for number, (dimension, entities, name) in enumerate(groups, 1):
+        gmsh.model.setPhysicalName(dimension, gmsh.model.addPhysicalGroup(dimension, entities, number), name)
+    gmsh.write(f"{folder}/box_41.msh")
+    gmsh.option.setNumber("Mesh.MshFileVersion", 2.2)
+    gmsh.write(f"{folder}/box_22.msh")
+    newer, older = read_mesh(f"{folder}/box_41.msh"), read_mesh(f"{folder}/box_22.msh")
+    agree(measures(older), measures(newer), 0.0)
+    assert sorted({key[1] for key in measures(newer) if key[0] == 2}) == [1, 2] and sorted(newer.names) == sorted(older.names)
+    gmsh.model.setPhysicalName(3, gmsh.model.addPhysicalGroup(3, [1], 4), "again")
+    gmsh.write(f"{folder}/twice_22.msh")
+    gmsh.option.setNumber("Mesh.MshFileVersion", 4.1)
+    gmsh.write(f"{folder}/twice_41.msh")
+    gmsh.finalize()
+    for version in (22, 41):
+        assert "two physical groups" in refused("to_whole", f"{folder}/twice_{version}.msh", f"{folder}/twice_whole.msh")
 
 
 def groups_that_overlap_are_kept(folder: str):
@@ -479,6 +510,8 @@ def wrapper_explains(folder: str):
     ended = ran(wrapper, "--plain", "--mesh", f"{folder}/missing.msh", *words)
     assert (ended.returncode, ended.stdout, ended.stderr) == (4, "refused: mesh: missing\n", ""), ended
     as_msh(f"{folder}/corner.msh", CORNER, [(4, (0, 1), (1, 2, 3, 4))])
+    ended = ran(wrapper, "--plain", "--mesh", f"{folder}/corner.msh", *words[:2], "--rounds", 3, *words[4:])
+    assert (ended.returncode, ended.stdout) == (4, "refused: rounds 3 grid 2\n") and "to_whole.py IN OUT.msh --rounds 3" in ended.stderr, ended
     ended = ran(wrapper, "--plain", "--mesh", f"{folder}/corner.msh", *words)
     assert (ended.returncode, ended.stderr) == (0, "") and ended.stdout.endswith("done: plain\n"), ended
 
@@ -497,6 +530,7 @@ ONCE = (
     parts_are_cell_data,
     one_dimension_is_written_alone,
     coordinates_come_back,
+    groups_of_newer_files_are_read,
     groups_that_overlap_are_kept,
     help_shows_an_example,
     faults_take_one_line,
