@@ -1,8 +1,9 @@
 // A field of sizes over places.
-ghost use Rattle.std.specs.Prelude.{◌≡◌, ◌&&◌, ◌≤◌, ◌*◌, ◌^◌, ◌*ℤ◌, pos, int_lt, min, unsigned_abs, [], true};
+ghost use Rattle.std.specs.Prelude.{◌≡◌, ◌&&◌, ◌≤◌, ◌*◌, ◌^◌, ◌*ℤ◌, pos, int_lt, min, unsigned_abs, [], ◌∷◌, ◌++◌, true, IfOk, OnErr, OnOk};
 ghost use Rattle.size_marks.specs.Field.{greatest_size, holds, is_long, is_short, is_size, is_in_extent, size_along, size_at};
 
-use ma_geom::{Place, squared_length};
+use crate::looking::{BoxIndex, size_by_index};
+use ma_geom::{Memory, Place, squared_length};
 use std::alloc::Global;
 use std::marker::Model;
 
@@ -55,6 +56,18 @@ impl SizeBox {
         self.size
     }
 
+    pub(crate) fn low(&self) -> Place
+        ensures { result ≡ self.now.low }
+    {
+        self.low
+    }
+
+    pub(crate) fn high(&self) -> Place
+        ensures { result ≡ self.now.high }
+    {
+        self.high
+    }
+
     /// Whether the place is in the box.
     pub fn holds(&self, p: Place) -> bool
         ensures { result ≡ holds self.now p }
@@ -67,22 +80,26 @@ impl SizeBox {
     }
 }
 
-/// A size for all places, and boxes with sizes of their own. Sizes are 1 to 2^30.
+/// A size for all places, and boxes with sizes of their own. Sizes are 1 to 2^30. Where the boxes
+/// are indexed, the size at a place is found in a step for every 64 boxes and few more; without an
+/// index in a step for every box.
 #[derive(Debug, Drop)]
 pub struct SizeField {
     default: u32,
     boxes: Vec<SizeBox>,
+    index: Option<BoxIndex>,
 }
 
 impl Model for SizeField {
     ghost use Rattle.std.specs.Prelude.{◌≡◌, true};
     ghost use Rattle.size_marks.specs.Field.{Field, is_size};
+    ghost use Rattle.size_marks.specs.steps.Slabs.{IsIndexOf};
 
     ghost Value = { Field };
 
     ghost view = { λ f. record { default = f.default; boxes = f.boxes.items } };
 
-    ghost invariant = { λ f. is_size f.default ≡ true };
+    ghost invariant = { λ f. (is_size f.default ≡ true) × IsIndexOf f.boxes.items f.index };
 }
 
 /// The size of the last of these boxes that holds the place, else the default.
@@ -138,7 +155,42 @@ impl SizeField {
         SizeField {
             default: size,
             boxes: Vec::new(alloc),
+            index: None,
         }
+    }
+
+    /// Puts a box behind all others. The boxes are without an index then.
+    pub fn push_box(&mut self, boxed: SizeBox) -> Result<(), Memory>
+        ensures done { OnOk result (self.new ≡ record { default = self.old.default; boxes = self.old.boxes ++ boxed ∷ [] }) }
+        ensures memory { OnErr result (self.new ≡ self.old) }
+    {
+        self.index = None;
+        self.boxes.push(boxed)?;
+        Ok(())
+    }
+
+    /// Indexes the boxes. To be called when the last box is put: it takes some thousand steps for
+    /// each box, and memory of some hundred bytes.
+    pub fn index_boxes(&mut self, alloc: Global) -> Result<(), Memory>
+        ensures { self.new ≡ self.old }
+    {
+        self.index = Some(BoxIndex::of(alloc, &self.boxes)?);
+        Ok(())
+    }
+
+    /// An equal field, indexed where this one is.
+    pub fn copy(&self, alloc: Global) -> Result<SizeField, Memory>
+        ensures { IfOk result (λ copy. copy ≡ self.now) }
+    {
+        let mut copy = SizeField {
+            default: self.default,
+            boxes: Vec::from_slice(alloc, &self.boxes)?,
+            index: None,
+        };
+        if self.index.is_some() {
+            copy.index_boxes(alloc)?;
+        }
+        Ok(copy)
     }
 
     /// The size of the last box that holds the place, else the default.
@@ -146,7 +198,10 @@ impl SizeField {
         ensures value { result ≡ size_at self.now p }
         ensures range { is_size result ≡ true }
     {
-        size_among(self.default, &self.boxes, p)
+        match &self.index {
+            Some(index) => size_by_index(self.default, &self.boxes, index, p),
+            None => size_among(self.default, &self.boxes, p),
+        }
     }
 
     /// The lesser size of the two ends of an edge.

@@ -2,6 +2,8 @@
 #![tactic(auto)]
 
 mod field;
+mod looking;
+mod slabs;
 
 pub use field::{SizeBox, SizeField};
 

@@ -1,6 +1,7 @@
 // Values that were worked out by hand.
 use super::*;
-use ma_geom::Place;
+use ma_geom::{Memory, Place};
+use std::alloc::Global;
 
 /// The place with these coordinates, or the origin where they are out of range.
 fn place(x: i32, y: i32, z: i32) -> Place {
@@ -44,4 +45,37 @@ fn a_box_holds_its_corners_and_none_where_it_is_turned(rt: HostRuntime) {
     assert!(rt; edge.holds(o) && edge.holds(x) && edge.holds(place(4, 0, 0)));
     assert!(rt; !edge.holds(place(4, 1, 0)) && !edge.holds(place(9, 0, 0)));
     assert!(rt; !SizeBox::new(x, o, 3).holds(o));
+}
+
+/// A field of size 64 with boxes from the origin to 8, 4 and 8 along x, the second with size 2, and
+/// a last one that is turned.
+fn three_boxes(alloc: Global) -> Result<SizeField, Memory> {
+    let (o, u, x) = (place(0, 0, 0), place(4, 0, 0), place(8, 0, 0));
+    let mut field = SizeField::uniform(alloc, 64);
+    field.push_box(SizeBox::new(o, x, 3))?;
+    field.push_box(SizeBox::new(o, u, 2))?;
+    field.push_box(SizeBox::new(x, o, 1))?;
+    Ok(field)
+}
+
+fn sizes_on_x(field: &SizeField) -> [u32; 4] {
+    [
+        field.size_at(place(0, 0, 0)),
+        field.size_at(place(5, 0, 0)),
+        field.size_at(place(8, 0, 0)),
+        field.size_at(place(9, 0, 0)),
+    ]
+}
+
+#[test]
+fn the_last_box_decides_with_an_index_and_without(rt: HostRuntime) -> Result<(), Memory> {
+    let mut field = three_boxes(rt.alloc())?;
+    assert!(rt; sizes_on_x(&field) == [2, 3, 3, 64]);
+    field.index_boxes(rt.alloc())?;
+    assert!(rt; sizes_on_x(&field) == [2, 3, 3, 64]);
+    let mut copy = field.copy(rt.alloc())?;
+    assert!(rt; sizes_on_x(&copy) == [2, 3, 3, 64]);
+    copy.push_box(SizeBox::new(place(9, 0, 0), place(9, 0, 0), 7))?;
+    assert!(rt; sizes_on_x(&copy) == [2, 3, 3, 7]);
+    Ok(())
 }

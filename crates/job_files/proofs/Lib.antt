@@ -1,0 +1,2 @@
+pub mod BoxLines
+pub mod Numbers

@@ -1,0 +1,4 @@
+pub mod Answer
+pub mod Partition
+pub mod Schedule
+pub mod Sizes

@@ -1,0 +1,5 @@
+pub mod Bits
+pub mod Blocks
+pub mod Holders
+pub mod Rows
+pub mod Stored
