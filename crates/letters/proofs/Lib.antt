@@ -1,0 +1,6 @@
+mod Numbers
+mod Combined
+mod Listed
+mod FieldLaws
+mod EntryLaws
+mod LetterLaws
