@@ -4,3 +4,7 @@ mod Listed
 mod FieldLaws
 mod EntryLaws
 mod LetterLaws
+mod Looping
+mod Joining
+mod Orders
+mod Tetrahedra

@@ -1,5 +1,5 @@
 -- Grammars of tetrahedra, marks, operations and shared places.
-use Rattle.std.specs.Prelude.{ℕ, ◌+◌, ◌-◌, Bool, not, nat_lt, nat_le, List, [], ◌∷◌}
+use Rattle.std.specs.Prelude.{ℕ, ℤ, ◌+◌, ◌-◌, Bool, not, nat_lt, nat_le, List, [], ◌∷◌, Option, Some, None, if◌then◌else◌}
 use Rattle.std.specs.Ordering.{is_lt}
 use Rattle.ma_geom.specs.Coordinates.{Coordinates}
 use Rattle.ma_cells.specs.Cells.{CellMark, corners_of, is_cell, mark_cmp}
@@ -15,6 +15,10 @@ use Rattle.letters.specs.Sharing.{SharedPlace}
 abbrev pub tet : Grammar Tetrahedron
 tet = tested (λ t. not (is_flat t.corners))
     (renamed (λ p. record { corners = p.0; phys = p.1.0; elem = p.1.1 }) (λ t. (t.corners, (t.phys, t.elem))) (entries place_before place 4 then signed then signed))
+
+-- the tetrahedron with these corners and this region, unless it is flat
+abbrev pub solid_tet : List Coordinates → ℤ × ℤ → Option Tetrahedron
+solid_tet corners region = if is_flat corners then None else Some (record { corners = corners; phys = region.0; elem = region.1 })
 
 abbrev pub tet_before : Tetrahedron → Tetrahedron → Bool
 tet_before t u = is_lt (tet_cmp t u)

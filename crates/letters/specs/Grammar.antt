@@ -100,3 +100,9 @@ entries before g n = record {
 -- a count, and as many entries
 abbrev pub counted : {X : Type 0} → Grammar ℕ → (X → X → Bool) → Grammar X → Grammar (List X)
 counted count before g = renamed (λ p. p.1) (λ xs. (length xs, xs)) (chain count (entries before g))
+
+-- the last entry of a list
+abbrev pub last_of : {X : Type 0} → List X → Option X
+last_of [] = None
+last_of (x ∷ []) = Some x
+last_of (x ∷ y ∷ xs) = last_of (y ∷ xs)

@@ -1,10 +1,14 @@
 //! Letters between parts, and their bytes.
 #![tactic(auto)]
 
+mod entries;
 mod fault;
+mod fields;
 mod laws;
 mod letter;
+mod lists;
 mod shared;
+mod spelling;
 
 pub use fault::LetterFault;
 pub use laws::no_spelling_begins_another;

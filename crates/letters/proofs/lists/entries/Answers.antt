@@ -1,0 +1,34 @@
+use Rattle.std.proofs.Common.{◌≡◌, ap, sym, ◌∙◌, ◌++◌, ◌∷◌, [], true, false}
+use Rattle.std.specs.Prelude.{None, Err}
+use Rattle.std.proofs.lemmas.Result.{err_from_is_err_and}
+use Rattle.letters.specs.declared.fault.LetterFault.TheVariants.{BadField}
+use Rattle.letters.specs.Grammar.{comes_behind, entries_at, last_of}
+use Rattle.letters.proofs.Looping.{ends, goes_on, stops}
+use Rattle.letters.proofs.lists.entries.Goals as goal
+
+pub returns-in_err-item : goal.returns-in_err-item
+returns-in_err-item g c =
+    let p = err_from_is_err_and c.from_residual.result c.from_residual.ensures.1 in
+    let before = g.T.Entry.before in
+    let grammar = g.T.Entry.grammar in
+    rw (p.1, p.2) (ends before grammar c.args.end c.in_err-item.field-0.0 c.loop.items.items c.args.count c.loop.counter c.loop.rest.now (entries_at before grammar c.args.end c.args.bytes.now None c.args.count) c.loop-test.true c.in_err-item.ensures c.loop.invariant)
+
+pub returns-then-not-is_behind : goal.returns-then-not-is_behind
+returns-then-not-is_behind g c =
+    let before = g.T.Entry.before in
+    let grammar = g.T.Entry.grammar in
+    let item = c.in_ok-item.item in
+    let behind : comes_behind before (last_of c.loop.items.items) item ≡ false =
+        ap (λ xs. comes_behind before (last_of xs) item) (sym c.deref.ensures.value) ∙ sym c.is_behind.ensures ∙ c.if-not-is_behind.true in
+    rw c.place_of.ensures (stops before grammar c.args.end c.loop.items.items c.args.count c.loop.counter c.loop.rest.now item c.in_ok-item.after.now (entries_at before grammar c.args.end c.args.bytes.now None c.args.count)
+        c.loop-test.true c.in_ok-item.ensures behind c.loop.invariant)
+
+pub loop-preserved : goal.loop-preserved
+loop-preserved g c =
+    let before = g.T.Entry.before in
+    let grammar = g.T.Entry.grammar in
+    let item = c.in_ok-item.item in
+    let behind : comes_behind before (last_of c.loop.items.items) item ≡ true =
+        ap (λ xs. comes_behind before (last_of xs) item) (sym c.deref.ensures.value) ∙ sym c.is_behind.ensures ∙ c.if-not-is_behind.false in
+    rw c.in_ok-push.ensures.items (goes_on before grammar c.args.end c.loop.items.items c.args.count c.loop.counter c.loop.rest.now item c.in_ok-item.after.now (entries_at before grammar c.args.end c.args.bytes.now None c.args.count)
+        c.loop-test.true c.in_ok-item.ensures behind c.loop.invariant)
