@@ -9,7 +9,7 @@ use Rattle.ma_cells.specs.Cells.{CellMark, corners_of, is_cell}
 use Rattle.ma_cells.specs.declared.cell.Cell.{Cell}
 use Rattle.ma_cells.specs.declared.cell.Cell.TheVariants.{Point, Seg, Tri}
 use Rattle.letters.specs.Entries.{cell_at, corner_count, mark, operation, shared, tet}
-use Rattle.letters.specs.Fields.{between, place, place_before, signed}
+use Rattle.letters.specs.Fields.{between, part_before, place, place_before, signed}
 use Rattle.letters.specs.Grammar.{are_behind, counted, entries, number, tested, ◌then◌}
 use Rattle.letters.specs.Laws.{IsLawful}
 use Rattle.letters.proofs.Combined.{chain_lawful, renamed_lawful, stands_for_lawful, tested_lawful}
@@ -73,8 +73,8 @@ operation_lawful =
 
 pub shared_lawful : IsLawful shared
 shared_lawful =
-    renamed_lawful _ _ (place then counted (between 2 64) ltb (number 1))
-        (chain_lawful place (λ _. counted (between 2 64) ltb (number 1)) place_lawful (λ _. counted_lawful ltb (number 1) (number_lawful 1) (between 2 64) (between_lawful 2 64))) (λ p h. refl) (λ s. refl)
+    renamed_lawful _ _ (place then counted (between 2 64) part_before (number 1))
+        (chain_lawful place (λ _. counted (between 2 64) part_before (number 1)) place_lawful (λ _. counted_lawful part_before (number 1) (number_lawful 1) (between 2 64) (between_lawful 2 64))) (λ p h. refl) (λ s. refl)
 
 -- what is known of the corners of a mark that fits
 record HasFew (corners : List Coordinates) : Type 0 where

@@ -8,3 +8,4 @@ mod Looping
 mod Joining
 mod Orders
 mod Tetrahedra
+mod Marks

@@ -1,12 +1,11 @@
 -- Entries read one after the other, as a loop does.
 use Rattle.std.proofs.Common.{◌≡◌, ℕ, zero, suc, ◌-◌, ◌+◌, ◌≤◌, ◌<◌, Bool, true, false, cond, ◌&&◌, List, [], ◌∷◌, ◌++◌, length, get_or, Option, Some, None, Result, Ok, Err, refl, sym, ap, subst, ◌∙◌, append_assoc, arith}
-use Rattle.std.specs.Prelude.{IfOk}
 use Rattle.std.proofs.lemmas.Bool.{and_from}
 use Rattle.std.proofs.lemmas.List.{append-nil}
 use Rattle.letters.specs.declared.fault.LetterFault.{LetterFault}
 use Rattle.letters.specs.declared.fault.LetterFault.TheVariants.{BadField, Short, Long, Memory}
 use Rattle.letters.specs.Grammar.{◌>>=◌, Grammar, are_behind, comes_behind, entries_at, last_of, tested}
-use Rattle.letters.specs.Letters.{Fails, Gives}
+use Rattle.letters.specs.Letters.{Fails}
 use Rattle.letters.proofs.Combined.{bind_ok, guard_ok, ok_is}
 
 -- the last entry is the one at the last index
@@ -89,8 +88,3 @@ module _ {X : Type 0} (before : X → X → Bool) (g : Grammar X) (end : ℕ) wh
       let behind : comes_behind before last a.0.0 ≡ true = subst (λ (x : X × List ℕ). comes_behind before last x.0 ≡ true) d.1 d.0 in
       subst (λ (q : List X × List ℕ). are_behind before last q.0 ≡ true) (ok_is made p b.2)
           (and_from (comes_behind before last a.0.0) (are_behind before (Some a.0.0) b.0.0) behind (behind_read a.0.1 (Some a.0.0) n b.0 b.1))
-
-  pub if_behind : {R : Type 0} (view : R → List X × List ℕ) (r : Result R LetterFault) (bytes : List ℕ) (n : ℕ) → Gives view r (entries_at before g end bytes None n)
-      → IfOk r (λ x. are_behind before None (view x).0 ≡ true)
-  if_behind view (Ok x) bytes n given = behind_read bytes None n (view x) given
-  if_behind view (Err fault) bytes n given = tt

@@ -7,7 +7,7 @@ use Rattle.ma_cells.specs.Tetrahedron.{Tetrahedron, is_flat, tet_cmp}
 use Rattle.ma_cells.specs.declared.cell.Cell.{Cell}
 use Rattle.ma_cells.specs.declared.cell.Cell.TheVariants.{Point, Seg, Tri}
 use Rattle.cavity_rank.specs.Operations.{Operation, rank}
-use Rattle.letters.specs.Fields.{between, place, place_before, signed}
+use Rattle.letters.specs.Fields.{between, part_before, place, place_before, signed}
 use Rattle.letters.specs.Grammar.{Grammar, counted, entries, number, renamed, stands_for, tested, ◌then◌}
 use Rattle.letters.specs.Sharing.{SharedPlace}
 
@@ -50,4 +50,4 @@ operation_before o p = is_lt (rank o p)
 
 -- a shared place: the place, and two to 64 parts, each behind the one before it
 abbrev pub shared : Grammar SharedPlace
-shared = renamed (λ p. record { place = p.0; parts = p.1 }) (λ s. (s.place, s.parts)) (place then counted (between 2 64) nat_lt (number 1))
+shared = renamed (λ p. record { place = p.0; parts = p.1 }) (λ s. (s.place, s.parts)) (place then counted (between 2 64) part_before (number 1))

@@ -1,7 +1,7 @@
 -- Grammars of the fields of letters.
 use Rattle.std.specs.Prelude.{ℕ, ℤ, pos, negsuc, ◌+◌, ◌-◌, ◌^◌, Bool, ◌&&◌, nat_lt, nat_le, unsigned_abs}
 use Rattle.std.specs.Int.{w32, cast_signed, cast_unsigned}
-use Rattle.std.specs.Ordering.{is_lt}
+use Rattle.std.specs.Ordering.{is_lt, nat_cmp}
 use Rattle.ma_geom.specs.Coordinates.{Coordinates, limit, place_cmp}
 use Rattle.letters.specs.Grammar.{Grammar, number, renamed, stands_for, tested, ◌then◌}
 
@@ -25,6 +25,9 @@ place = renamed (λ c. record { x = c.0; y = c.1.0; z = c.1.1 }) (λ p. (p.x, (p
 
 abbrev pub place_before : Coordinates → Coordinates → Bool
 place_before p q = is_lt (place_cmp p q)
+
+abbrev pub part_before : ℕ → ℕ → Bool
+part_before p q = is_lt (nat_cmp p q)
 
 -- a number of at least low and at most high, in a byte
 abbrev pub between : ℕ → ℕ → Grammar ℕ

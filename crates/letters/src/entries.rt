@@ -12,10 +12,11 @@ ghost use Rattle.letters.specs.Letters.{Gives};
 ghost use Rattle.letters.specs.Sharing.{shared_before};
 
 use crate::fault::LetterFault;
-use crate::fields::{byte_at, place_at, place_of, signed_at};
+use crate::fields::{between_at, corner_count_at, place_at, place_of, signed_at, word_at};
 use crate::lists::Entry;
 use crate::spelling::{put_byte, put_place, put_places, put_signed};
 use arrayvec::ArrayVec;
+use cavity_rank::Operation;
 use ma_cells::{Cell, Mark, Tet};
 use ma_geom::{Memory, Place};
 use std::alloc::Global;
@@ -132,4 +133,58 @@ fn tet_at(end: usize, bytes: &[u8]) -> Result<(Tet, &[u8]), LetterFault>
         Some(t) => Ok((t, rest)),
         None => Err(LetterFault::BadField(place_of(end, bytes))),
     }
+}
+
+/// The mark on the cell with these corners, which ascend.
+fn mark_of(corners: &[Place], phys: i32, elem: i32) -> Mark
+    requires least { 1 ≤ length corners.now }
+    requires most { length corners.now ≤ 3 }
+    requires rises { are_ascending place_cmp corners.now ≡ true }
+    ensures { result ≡ record { cell = cell_at corners.now; phys = phys; elem = elem } }
+{
+    match Cell::new(corners) {
+        Some(cell) => Mark::new(cell, phys, elem),
+        None => unreachable!(),
+    }
+}
+
+fn mark_at(end: usize, bytes: &[u8]) -> Result<(Mark, &[u8]), LetterFault>
+    ensures { Gives (λ x. (x.0, x.1.now)) result (mark.reading end bytes.now) }
+{
+    let (count, rest) = corner_count_at(end, bytes)?;
+    let (corners, rest) = match places_at(count, end, rest) {
+        Ok(read) => read,
+        Err(fault) => return Err(fault),
+    };
+    let ((phys, elem), rest) = tag_at(rest)?;
+    Ok((mark_of(&corners, phys, elem), rest))
+}
+
+/// The operation at these places, which ascend.
+fn operation_of(at: &[Place], apex: Place, worst: u32) -> Operation
+    requires least { 1 ≤ length at.now }
+    requires most { length at.now ≤ 3 }
+    requires rises { are_ascending place_cmp at.now ≡ true }
+    ensures { result ≡ record { at = at.now; apex = apex; worst = worst } }
+{
+    match Operation::new(at, apex, worst) {
+        Some(operation) => operation,
+        None => unreachable!(),
+    }
+}
+
+fn operation_at(end: usize, bytes: &[u8]) -> Result<(Operation, &[u8]), LetterFault>
+    ensures { Gives (λ x. (x.0, x.1.now)) result (operation.reading end bytes.now) }
+{
+    let (count, rest) = between_at(1, 3, end, bytes)?;
+    let (at, rest) = match places_at(count, end, rest) {
+        Ok(read) => read,
+        Err(fault) => return Err(fault),
+    };
+    let (apex, rest) = match place_at(end, rest) {
+        Ok(read) => read,
+        Err(fault) => return Err(fault),
+    };
+    let (worst, rest) = word_at(rest)?;
+    Ok((operation_of(&at, apex, worst), rest))
 }

@@ -3,6 +3,7 @@
 ghost use Rattle.std.specs.Prelude.{◌≡◌, ◌≤◌, ◌-◌, length, unsigned_abs, FitsSigned, IfOk};
 ghost use Rattle.std.specs.Int.{w32};
 ghost use Rattle.ma_geom.specs.Coordinates.{limit};
+ghost use Rattle.letters.specs.Entries.{corner_count};
 ghost use Rattle.letters.specs.Fields.{between, coordinate, is_coordinate, place, signed};
 ghost use Rattle.letters.specs.Grammar.{number};
 ghost use Rattle.letters.specs.Letters.{Gives};
@@ -92,11 +93,27 @@ pub(crate) fn between_at(
     end: usize,
     bytes: &[u8],
 ) -> Result<(u8, &[u8]), LetterFault>
-    ensures { Gives (λ x. (x.0, x.1.now)) result ((between low high).reading end bytes.now) }
+    ensures gives { Gives (λ x. (x.0, x.1.now)) result ((between low high).reading end bytes.now) }
+    ensures least { IfOk result (λ x. low ≤ x.0) }
+    ensures most { IfOk result (λ x. x.0 ≤ high) }
 {
     let (n, rest) = byte_at(bytes)?;
     if low <= n && n <= high {
         Ok((n, rest))
+    } else {
+        Err(LetterFault::BadField(place_of(end, bytes)))
+    }
+}
+
+/// How many corners a cell has, by its dimension.
+pub(crate) fn corner_count_at(end: usize, bytes: &[u8]) -> Result<(u8, &[u8]), LetterFault>
+    ensures gives { Gives (λ x. (x.0, x.1.now)) result (corner_count.reading end bytes.now) }
+    ensures least { IfOk result (λ x. 1 ≤ x.0) }
+    ensures most { IfOk result (λ x. x.0 ≤ 3) }
+{
+    let (dimension, rest) = byte_at(bytes)?;
+    if dimension < 3 {
+        Ok((dimension + 1, rest))
     } else {
         Err(LetterFault::BadField(place_of(end, bytes)))
     }

@@ -10,7 +10,7 @@ use crate::fields::{long_at, place_of};
 use ma_geom::Memory;
 use std::alloc::Global;
 
-/// What stands in the lists of letters.
+/// What stands in the lists of letters. Where an allocator is passed that isn't used, no memory is taken.
 pub(crate) trait Entry: Drop + Sized {
     ghost grammar: { Grammar Self };
 
@@ -38,13 +38,15 @@ fn is_behind<T: Entry>(items: &[T], item: &T) -> bool
     }
 }
 
-fn entries<T: Entry>(
+/// As many entries, each behind the one before it.
+pub(crate) fn entries<T: Entry>(
     alloc: Global,
     count: u64,
     end: usize,
     bytes: &[u8],
 ) -> Result<(Vec<T>, &[u8]), LetterFault>
-    ensures { Gives (λ x. (x.0.items, x.1.now)) result (entries_at T.before T.grammar end bytes.now None count) }
+    ensures gives { Gives (λ x. (x.0.items, x.1.now)) result (entries_at T.before T.grammar end bytes.now None count) }
+    ensures behind { IfOk result (λ x. are_behind T.before None x.0.items ≡ true) }
 {
     let mut items = Vec::new(alloc);
     let mut rest = bytes;
