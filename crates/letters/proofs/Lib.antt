@@ -9,3 +9,4 @@ mod Joining
 mod Orders
 mod Tetrahedra
 mod Marks
+mod Fitting

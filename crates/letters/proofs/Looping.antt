@@ -88,3 +88,13 @@ module _ {X : Type 0} (before : X → X → Bool) (g : Grammar X) (end : ℕ) wh
       let behind : comes_behind before last a.0.0 ≡ true = subst (λ (x : X × List ℕ). comes_behind before last x.0 ≡ true) d.1 d.0 in
       subst (λ (q : List X × List ℕ). are_behind before last q.0 ≡ true) (ok_is made p b.2)
           (and_from (comes_behind before last a.0.0) (are_behind before (Some a.0.0) b.0.0) behind (behind_read a.0.1 (Some a.0.0) n b.0 b.1))
+
+  -- and are as many as they should be
+  pub count_read : (bytes : List ℕ) (last : Option X) (n : ℕ) (p : List X × List ℕ) → entries_at before g end bytes last n ≡ Ok p → length p.0 ≡ n
+  count_read bytes last zero p e = subst (λ (q : List X × List ℕ). length q.0 ≡ 0) (ok_is ([], bytes) p e) refl
+  count_read bytes last (suc n) p e =
+      let first = tested (comes_behind before last) g in
+      let a = bind_ok (first.reading end bytes) (λ x. entries_at before g end x.1 (Some x.0) n >>= λ xs. Ok (x.0 ∷ xs.0, xs.1)) p e in
+      let b = bind_ok (entries_at before g end a.0.1 (Some a.0.0) n) (λ xs. Ok (a.0.0 ∷ xs.0, xs.1)) p a.2 in
+      let made : List X × List ℕ = (a.0.0 ∷ b.0.0, b.0.1) in
+      subst (λ (q : List X × List ℕ). length q.0 ≡ suc n) (ok_is made p b.2) (ap suc (count_read a.0.1 (Some a.0.0) n b.0 b.1))

@@ -7,6 +7,7 @@ ghost use Rattle.letters.specs.Letters.{Gives};
 
 use crate::fault::LetterFault;
 use crate::fields::{long_at, place_of};
+use crate::spelling::put_long;
 use ma_geom::Memory;
 use std::alloc::Global;
 
@@ -47,6 +48,7 @@ pub(crate) fn entries<T: Entry>(
 ) -> Result<(Vec<T>, &[u8]), LetterFault>
     ensures gives { Gives (λ x. (x.0.items, x.1.now)) result (entries_at T.before T.grammar end bytes.now None count) }
     ensures behind { IfOk result (λ x. are_behind T.before None x.0.items ≡ true) }
+    ensures count { IfOk result (λ x. length x.0.items ≡ count) }
 {
     let mut items = Vec::new(alloc);
     let mut rest = bytes;
@@ -72,4 +74,25 @@ pub(crate) fn list_at<T: Entry>(
 {
     let (count, rest) = long_at(bytes)?;
     entries(alloc, count, end, rest)
+}
+
+/// Entries one after another.
+pub(crate) fn put_entries<T: Entry>(out: &mut Vec<u8>, items: &[T]) -> Result<(), Memory>
+    ensures text { OnOk result (out.new.items ≡ out.old.items ++ flat_map T.grammar.spelling items.now) }
+    ensures fits { OnOk result (list_all T.grammar.fits items.now ≡ true) }
+{
+    for item in items {
+        item.put(out)?;
+    }
+    Ok(())
+}
+
+/// A list, with its length before it.
+pub(crate) fn put_list<T: Entry>(out: &mut Vec<u8>, items: &[T]) -> Result<(), Memory>
+    requires { are_behind T.before None items.now ≡ true }
+    ensures text { OnOk result (out.new.items ≡ out.old.items ++ (list_of T.before T.grammar).spelling items.now) }
+    ensures fits { OnOk result ((list_of T.before T.grammar).fits items.now ≡ true) }
+{
+    put_long(out, items.len() as u64)?;
+    put_entries(out, items)
 }

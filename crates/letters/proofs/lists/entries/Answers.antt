@@ -3,7 +3,7 @@ use Rattle.std.specs.Prelude.{None, Err}
 use Rattle.std.proofs.lemmas.Result.{err_from_is_err_and}
 use Rattle.letters.specs.declared.fault.LetterFault.TheVariants.{BadField}
 use Rattle.letters.specs.Grammar.{comes_behind, entries_at, last_of}
-use Rattle.letters.proofs.Looping.{behind_read, ends, goes_on, is_done, stops}
+use Rattle.letters.proofs.Looping.{behind_read, count_read, ends, goes_on, is_done, stops}
 use Rattle.letters.proofs.lists.entries.Goals as goal
 
 pub returns-in_err-item-clause-gives : goal.returns-in_err-item-clause-gives
@@ -39,4 +39,12 @@ returns-clause-behind g c =
     let grammar = g.T.Entry.grammar in
     let total = entries_at before grammar c.args.end c.args.bytes.now None c.args.count in
     behind_read before grammar c.args.end c.args.bytes.now None c.args.count (c.loop.items.items, c.loop.rest.now)
+        (is_done before grammar c.args.end c.loop.items.items c.args.count c.loop.counter c.loop.rest.now total c.loop-test.false c.loop.invariant)
+
+pub returns-clause-count : goal.returns-clause-count
+returns-clause-count g c =
+    let before = g.T.Entry.before in
+    let grammar = g.T.Entry.grammar in
+    let total = entries_at before grammar c.args.end c.args.bytes.now None c.args.count in
+    count_read before grammar c.args.end c.args.bytes.now None c.args.count (c.loop.items.items, c.loop.rest.now)
         (is_done before grammar c.args.end c.loop.items.items c.args.count c.loop.counter c.loop.rest.now total c.loop-test.false c.loop.invariant)
