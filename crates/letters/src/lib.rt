@@ -1,6 +1,7 @@
 //! Letters between parts, and their bytes.
 #![tactic(auto)]
 
+mod bodies;
 mod entries;
 mod fault;
 mod fields;
