@@ -1,5 +1,6 @@
 -- The grammar of letters is lawful.
 use Rattle.std.proofs.Common.{◌≡◌, ℕ, zero, suc, ◌+◌, ◌<◌, ◌≤◌, Bool, true, false, cond, leb, ltb, eqb, ◌&&◌, length, List, [], ◌∷◌, ◌++◌, Option, Some, None, Result, Ok, Err, refl, sym, ap, subst, ◌∙◌, arith}
+use Rattle.std.specs.Prelude.{IfOk}
 use Rattle.std.proofs.lemmas.Bool.{and_parts, eqb-true, eq-eqb, false≢true, leb-true}
 use Rattle.std.proofs.lemmas.Bool.Decides.{nat_tests}
 use Rattle.std.proofs.lemmas.List.{append-nil, nil_from_length}
@@ -19,7 +20,7 @@ use Rattle.letters.specs.Entries.{mark, mark_before, operation, operation_before
 use Rattle.letters.specs.Fields.{between, place, place_before}
 use Rattle.letters.specs.Grammar.{◌>>=◌, Grammar, chain, counted, fits_in, number, ◌then◌}
 use Rattle.letters.specs.Laws.{AreBytes, IsLawful}
-use Rattle.letters.specs.Letters.{IsLetter, NoSpellingBeginsAnother, letter, read, spelling}
+use Rattle.letters.specs.Letters.{Gives, IsLetter, NoSpellingBeginsAnother, letter, read, spelling}
 use Rattle.letters.specs.Sharing.{SharedPlace, shared_before}
 use Rattle.letters.proofs.Combined.{IsVariant, bind_ok, chain_lawful, guard_ok, ok_is, renamed_lawful, variant_lawful}
 use Rattle.letters.proofs.EntryLaws.{mark_lawful, operation_lawful, shared_lawful, tet_lawful}
@@ -186,3 +187,20 @@ no_spelling_begins_another l m rest fl fm e =
     let other : letter.reading 0 (spelling m) ≡ Ok (l, rest) = ap (letter.reading 0) e ∙ letter_lawful.again 0 l rest fl in
     let both = ok_is (m, []) (l, rest) (sym one ∙ other) in
     (ap (λ (p : Letter × List ℕ). p.1) (sym both), ap (λ (p : Letter × List ℕ). p.0) both)
+pub is_found : (bytes : List ℕ) (r : Result Letter LetterFault) → AreBytes bytes → Gives (λ l. l) r (read bytes) → IfOk r (λ l. IsLetter l × (bytes ≡ spelling l))
+is_found bytes (Ok l) fit given = read_is bytes l fit given
+is_found bytes (Err fault) fit given = tt
+
+kind_fits : (k : LetterKind) → kind.fits k ≡ true
+kind_fits kinds.Post = refl
+kind_fits kinds.Reply = refl
+kind_fits kinds.Ghosts = refl
+kind_fits kinds.Propose = refl
+kind_fits kinds.Vote = refl
+kind_fits kinds.Order = refl
+kind_fits kinds.Deliver = refl
+
+-- a letter has a spelling where its numbers and its body have
+pub letter_fits : (l : Letter) → (number 4).fits l.round ≡ true → (number 4).fits l.phase ≡ true → (number 1).fits l.sender ≡ true → (number 1).fits l.target ≡ true
+    → (body_of (kind_of l.body)).fits l.body ≡ true → IsLetter l
+letter_fits l round phase sender target body = rw (kind_fits (kind_of l.body), round, phase, sender, target) body

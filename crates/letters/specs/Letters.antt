@@ -24,6 +24,10 @@ spelling l = letter.spelling l
 abbrev pub read : List ℕ → Result Letter LetterFault
 read bytes = letter.reading (length bytes) bytes >>= λ l. if length l.1 == 0 then Ok l.0 else Err Long
 
+-- what stands before the body of a letter
+abbrev pub head_spelling : Letter → List ℕ
+head_spelling l = kind.spelling (kind_of l.body) ++ ((number 4).spelling l.round ++ ((number 4).spelling l.phase ++ ((number 1).spelling l.sender ++ (number 1).spelling l.target)))
+
 -- that what a function gave is what the bytes are read as, unless memory ran out
 abbrev pub Fails : {Y : Type 0} → LetterFault → Result Y LetterFault → Type 0
 Fails Memory reading = Unit {0}

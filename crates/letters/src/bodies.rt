@@ -1,6 +1,6 @@
-// What letters carry.
-ghost use Rattle.std.specs.Prelude.{◌≡◌, ◌++◌, true, OnOk};
-ghost use Rattle.letters.specs.Bodies.{batch, body_of, kind, kind_at, kind_number, kind_of, list_of, operations, post, reply};
+// What letters carry, as it is read.
+ghost use Rattle.std.specs.Prelude.{◌≡◌};
+ghost use Rattle.letters.specs.Bodies.{batch, body_of, kind, kind_at, list_of, operations, post, reply};
 ghost use Rattle.letters.specs.Entries.{mark, mark_before, operation, operation_before, shared, tet, tet_before};
 ghost use Rattle.letters.specs.Fields.{place, place_before};
 ghost use Rattle.letters.specs.Letters.{Gives};
@@ -9,12 +9,11 @@ ghost use Rattle.letters.specs.Sharing.{shared_before};
 use crate::fault::LetterFault;
 use crate::fields::{between_at, word_at};
 use crate::letter::{Body, LetterKind, Post, Reply};
-use crate::lists::{list_at, put_list};
+use crate::lists::list_at;
 use crate::shared::SharedPlaces;
-use crate::spelling::{put_byte, put_word};
 use cavity_rank::Operation;
 use ma_cells::{Ascending, Batch, Mark, Tet};
-use ma_geom::{Memory, Place};
+use ma_geom::Place;
 use std::alloc::Global;
 
 fn places_at(alloc: Global, end: usize, bytes: &[u8]) -> Result<(Ascending<Place>, &[u8]), LetterFault>
@@ -127,15 +126,6 @@ pub(crate) fn kind_of_letter(end: usize, bytes: &[u8]) -> Result<(LetterKind, &[
     Ok((kind_from(n), rest))
 }
 
-fn post_body(alloc: Global, end: usize, bytes: &[u8]) -> Result<(Body, &[u8]), LetterFault>
-    ensures { Gives (λ x. (x.0, x.1.now)) result ((body_of LetterKind.Post).reading end bytes.now) }
-{
-    match post_at(alloc, end, bytes) {
-        Ok((post, rest)) => Ok((Body::Post(post), rest)),
-        Err(fault) => Err(fault),
-    }
-}
-
 pub(crate) fn body_at(
     alloc: Global,
     kind: LetterKind,
@@ -145,7 +135,10 @@ pub(crate) fn body_at(
     ensures { Gives (λ x. (x.0, x.1.now)) result ((body_of kind).reading end bytes.now) }
 {
     match kind {
-        LetterKind::Post => post_body(alloc, end, bytes),
+        LetterKind::Post => match post_at(alloc, end, bytes) {
+            Ok((post, rest)) => Ok((Body::Post(post), rest)),
+            Err(fault) => Err(fault),
+        },
         LetterKind::Reply => match reply_at(alloc, end, bytes) {
             Ok((reply, rest)) => Ok((Body::Reply(reply), rest)),
             Err(fault) => Err(fault),

@@ -2,6 +2,8 @@
 #![tactic(auto)]
 
 mod bodies;
+mod decoding;
+mod encoding;
 mod entries;
 mod fault;
 mod fields;
@@ -11,6 +13,8 @@ mod lists;
 mod shared;
 mod spelling;
 
+pub use decoding::decode;
+pub use encoding::encode;
 pub use fault::LetterFault;
 pub use laws::no_spelling_begins_another;
 pub use letter::{Body, Letter, LetterKind, Post, Reply};
