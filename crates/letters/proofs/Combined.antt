@@ -1,5 +1,5 @@
 -- Grammars that are made of others are lawful where these are.
-use Rattle.std.proofs.Common.{◌≡◌, ℕ, zero, suc, ◌+◌, ◌-◌, Bool, true, false, cond, ◌&&◌, List, [], ◌∷◌, ◌++◌, length, Option, Some, None, Result, Ok, Err, refl, sym, ap, ap₂, subst, ◌∙◌, append_assoc, arith}
+use Rattle.std.proofs.Common.{◌≡◌, ℕ, ◌-◌, Bool, true, false, cond, ◌&&◌, List, ◌++◌, length, Option, Some, None, Result, Ok, Err, refl, sym, ap, subst, ◌∙◌, append_assoc}
 use Rattle.std.proofs.lemmas.Bool.{and_parts, and_from, false≢true}
 use Rattle.letters.specs.declared.fault.LetterFault.{LetterFault}
 use Rattle.letters.specs.declared.fault.LetterFault.TheVariants.{BadField}
@@ -51,7 +51,7 @@ chain_lawful {X = X} {Y = Y} g h first then = record { read = reads; again = aga
         let whole : bytes ≡ (g.spelling a.0.0 ++ (h a.0.0).spelling b.0.0) ++ b.0.1 = l.0 ∙ ap (λ (t : List ℕ). g.spelling a.0.0 ++ t) r.0 ∙ sym (append_assoc (g.spelling a.0.0) ((h a.0.0).spelling b.0.0) b.0.1) in
         let made : (X × Y) × List ℕ = ((a.0.0, b.0.0), b.0.1) in
         subst (λ (q : (X × Y) × List ℕ). (bytes ≡ (g.spelling q.0.0 ++ (h q.0.0).spelling q.0.1) ++ q.1) × ((g.fits q.0.0 && (h q.0.0).fits q.0.1) ≡ true)) (ok_is made (p, rest) b.2)
-            (whole, and_from (g.fits a.0.0) ((h a.0.0).fits b.0.0) l.1 r.1)
+        (whole, and_from (g.fits a.0.0) ((h a.0.0).fits b.0.0) l.1 r.1)
 
     again : (end : ℕ) (p : X × Y) (rest : List ℕ) → (g.fits p.0 && (h p.0).fits p.1) ≡ true → (chain g h).reading end ((g.spelling p.0 ++ (h p.0).spelling p.1) ++ rest) ≡ Ok (p, rest)
     again end p rest fit =
@@ -75,7 +75,7 @@ stands_for_lawful {X = X} {Y = Y} proper to of g lawful stands = record { read =
         let there = sym (stands.there a.0.0 r.1) in
         let made : Y × List ℕ = (to a.0.0, a.0.1) in
         subst (λ (q : Y × List ℕ). (bytes ≡ g.spelling (of q.0) ++ q.1) × ((proper q.0 && g.fits (of q.0)) ≡ true)) (ok_is made (y, rest) a.2)
-            (r.0 ∙ ap (λ (x : X). g.spelling x ++ a.0.1) there, and_from (proper (to a.0.0)) (g.fits (of (to a.0.0))) (stands.is_proper a.0.0 r.1) (subst (λ (x : X). g.fits x ≡ true) there r.1))
+        (r.0 ∙ ap (λ (x : X). g.spelling x ++ a.0.1) there, and_from (proper (to a.0.0)) (g.fits (of (to a.0.0))) (stands.is_proper a.0.0 r.1) (subst (λ (x : X). g.fits x ≡ true) there r.1))
 
     again : (end : ℕ) (y : Y) (rest : List ℕ) → (proper y && g.fits (of y)) ≡ true → (stands_for proper to of g).reading end (g.spelling (of y) ++ rest) ≡ Ok (y, rest)
     again end y rest h =

@@ -1,5 +1,5 @@
 -- The grammars of entries are lawful.
-use Rattle.std.proofs.Common.{◌≡◌, ℕ, zero, suc, ◌+◌, ◌-◌, ◌<◌, ◌≤◌, Bool, true, false, not, leb, ltb, eqb, ◌&&◌, length, List, [], ◌∷◌, Option, Some, None, refl, sym, ap, arith}
+use Rattle.std.proofs.Common.{◌≡◌, ℕ, ◌+◌, ◌-◌, true, leb, ltb, eqb, ◌&&◌, length, List, [], ◌∷◌, None, refl, ap, arith}
 use Rattle.std.specs.Prelude.{ℤ}
 use Rattle.std.specs.List.{list_all}
 use Rattle.std.proofs.lemmas.Bool.{and_parts, eqb-true, false≢true, le-leb, leb-true, ltb-true}
@@ -23,12 +23,12 @@ tag_lawful = chain_lawful signed (λ _. signed) signed_lawful (λ _. signed_lawf
 pub tet_lawful : IsLawful tet
 tet_lawful =
     tested_lawful _ _ (renamed_lawful _ _ (entries place_before place 4 then signed then signed)
-        (chain_lawful (entries place_before place 4) (λ _. signed then signed) (entries_lawful place_before place place_lawful 4) (λ _. tag_lawful)) (λ p h. refl) (λ t. refl))
+    (chain_lawful (entries place_before place 4) (λ _. signed then signed) (entries_lawful place_before place place_lawful 4) (λ _. tag_lawful)) (λ p h. refl) (λ t. refl))
 
 corner_count_lawful : IsLawful corner_count
 corner_count_lawful =
     stands_for_lawful (λ n. leb 1 n) (λ d. d + 1) (λ n. n - 1) (tested (λ d. ltb d 3) (number 1)) (tested_lawful _ (number 1) (number_lawful 1))
-        (record { there = λ d h. omega arith; is_proper = λ d h. le-leb 1 (d + 1) (omega arith); back = back })
+    (record { there = λ d h. omega arith; is_proper = λ d h. le-leb 1 (d + 1) (omega arith); back = back })
   where
     back : (n : ℕ) → leb 1 n ≡ true → n - 1 + 1 ≡ n
     back n h = omega (arith, leb-true 1 n h)
@@ -68,13 +68,13 @@ are_cell (a ∷ x ∷ y ∷ z ∷ corners) h k b = absurd (omega (arith, ltb-tru
 pub operation_lawful : IsLawful operation
 operation_lawful =
     renamed_lawful _ _ (counted (between 1 3) place_before place then place then number 4)
-        (chain_lawful (counted (between 1 3) place_before place) (λ _. place then number 4) (counted_lawful place_before place place_lawful (between 1 3) (between_lawful 1 3))
-            (λ _. chain_lawful place (λ _. number 4) place_lawful (λ _. number_lawful 4))) (λ p h. refl) (λ o. refl)
+    (chain_lawful (counted (between 1 3) place_before place) (λ _. place then number 4) (counted_lawful place_before place place_lawful (between 1 3) (between_lawful 1 3))
+    (λ _. chain_lawful place (λ _. number 4) place_lawful (λ _. number_lawful 4))) (λ p h. refl) (λ o. refl)
 
 pub shared_lawful : IsLawful shared
 shared_lawful =
     renamed_lawful _ _ (place then counted (between 2 64) part_before (number 1))
-        (chain_lawful place (λ _. counted (between 2 64) part_before (number 1)) place_lawful (λ _. counted_lawful part_before (number 1) (number_lawful 1) (between 2 64) (between_lawful 2 64))) (λ p h. refl) (λ s. refl)
+    (chain_lawful place (λ _. counted (between 2 64) part_before (number 1)) place_lawful (λ _. counted_lawful part_before (number 1) (number_lawful 1) (between 2 64) (between_lawful 2 64))) (λ p h. refl) (λ s. refl)
 
 -- what is known of the corners of a mark that fits
 record HasFew (corners : List Coordinates) : Type 0 where
@@ -85,8 +85,8 @@ record HasFew (corners : List Coordinates) : Type 0 where
 pub mark_lawful : IsLawful mark
 mark_lawful =
     stands_for_lawful (λ m. is_cell m.cell) _ (λ m. (corners_of m.cell, (m.phys, m.elem))) (counted corner_count place_before place then signed then signed)
-        (chain_lawful (counted corner_count place_before place) (λ _. signed then signed) (counted_lawful place_before place place_lawful corner_count corner_count_lawful) (λ _. tag_lawful))
-        (record { there = there; is_proper = proper; back = back })
+    (chain_lawful (counted corner_count place_before place) (λ _. signed then signed) (counted_lawful place_before place place_lawful corner_count corner_count_lawful) (λ _. tag_lawful))
+    (record { there = there; is_proper = proper; back = back })
   where
     parts : (p : List Coordinates × (ℤ × ℤ)) → (counted corner_count place_before place then signed then signed).fits p ≡ true → HasFew p.0
     parts p h =

@@ -1,11 +1,10 @@
 -- The grammars of fields are lawful.
-use Rattle.std.proofs.Common.{◌≡◌, ℕ, zero, suc, ◌+◌, ◌-◌, ◌^◌, ◌<◌, ◌≤◌, Bool, true, false, ltb, refl, sym, ap, arith}
+use Rattle.std.proofs.Common.{◌≡◌, ℕ, suc, ◌-◌, ◌^◌, Bool, true, false, ltb, refl, arith}
 use Rattle.std.specs.Prelude.{ℤ, pos, negsuc}
 use Rattle.std.specs.Int.{w32, cast_signed, cast_unsigned}
 use mir.Val.{sel}
 use Rattle.std.proofs.lemmas.Bool.{lt-ltb, ltb-false, ltb-true}
 use Rattle.std.proofs.lemmas.Int.{ints, of_z-to_z, to_z-of_z}
-use Rattle.ma_geom.specs.Coordinates.{Coordinates}
 use Rattle.letters.specs.Fields.{between, coordinate, is_coordinate, is_signed, place, signed}
 use Rattle.letters.specs.Grammar.{number, ◌then◌}
 use Rattle.letters.specs.Laws.{IsLawful}
@@ -35,7 +34,7 @@ coordinate_lawful = tested_lawful is_coordinate signed signed_lawful
 pub place_lawful : IsLawful place
 place_lawful =
     renamed_lawful _ _ (coordinate then coordinate then coordinate)
-        (chain_lawful coordinate (λ _. coordinate then coordinate) coordinate_lawful (λ _. chain_lawful coordinate (λ _. coordinate) coordinate_lawful (λ _. coordinate_lawful))) (λ c h. refl) (λ p. refl)
+    (chain_lawful coordinate (λ _. coordinate then coordinate) coordinate_lawful (λ _. chain_lawful coordinate (λ _. coordinate) coordinate_lawful (λ _. coordinate_lawful))) (λ c h. refl) (λ p. refl)
 
 pub between_lawful : (low high : ℕ) → IsLawful (between low high)
 between_lawful low high = tested_lawful _ (number 1) (number_lawful 1)

@@ -1,5 +1,5 @@
 -- What is put has a spelling.
-use Rattle.std.proofs.Common.{◌≡◌, ℕ, ◌-◌, ◌<◌, ◌≤◌, ◌^◌, Bool, true, false, not, leb, ltb, eqb, ◌&&◌, length, List, None, Result, Ok, Err, refl, sym, ap₂, subst, ◌∙◌, arith, w32, of_z, to_z}
+use Rattle.std.proofs.Common.{◌≡◌, ℕ, ◌-◌, ◌<◌, ◌≤◌, ◌^◌, Bool, true, not, leb, ltb, eqb, ◌&&◌, length, List, None, Result, Ok, Err, refl, ap₂, subst, ◌∙◌, arith, w32, of_z, to_z}
 use Rattle.std.specs.Prelude.{ℤ, OnOk}
 use Rattle.std.specs.List.{list_all}
 use Rattle.std.specs.List.Sorted.{IsStrictlySortedBy}
@@ -33,9 +33,9 @@ pub tet_fits : (t : Tetrahedron) → are_corners t.corners ≡ true → list_all
 tet_fits t corners fit region =
     let parts = and_parts (are_ascending place_cmp t.corners) (not (is_flat t.corners)) corners in
     and_from ((eqb (length t.corners) 4 && (are_behind place_before None t.corners && list_all place.fits t.corners)) && (signed then signed).fits (t.phys, t.elem)) (not (is_flat t.corners))
-        (and_from (eqb (length t.corners) 4 && (are_behind place_before None t.corners && list_all place.fits t.corners)) ((signed then signed).fits (t.phys, t.elem))
-            (and_from (eqb (length t.corners) 4) (are_behind place_before None t.corners && list_all place.fits t.corners) (eq-eqb (length t.corners) 4 (four_corners t.corners (corners_span t.corners corners))) (places_fit t.corners parts.0 fit)) region)
-        parts.1
+    (and_from (eqb (length t.corners) 4 && (are_behind place_before None t.corners && list_all place.fits t.corners)) ((signed then signed).fits (t.phys, t.elem))
+    (and_from (eqb (length t.corners) 4) (are_behind place_before None t.corners && list_all place.fits t.corners) (eq-eqb (length t.corners) 4 (four_corners t.corners (corners_span t.corners corners))) (places_fit t.corners parts.0 fit)) region)
+    parts.1
 
 -- a number that is handed on by its bits
 pub handed_on : (x z : ℤ) → mag x < 2 ^ 31 → x ≡ z → to_z w32 (of_z w32 x) ≡ z
@@ -52,7 +52,7 @@ counted_fits : {X : Type 0} (count : Grammar ℕ) (before : X → X → Bool) (g
     → (counted count before g).fits xs ≡ true
 counted_fits count before g xs few behind fit =
     and_from (count.fits (length xs)) (eqb (length xs) (length xs) && (are_behind before None xs && list_all g.fits xs)) few
-        (and_from (eqb (length xs) (length xs)) (are_behind before None xs && list_all g.fits xs) (eq-eqb (length xs) (length xs) refl) (and_from (are_behind before None xs) (list_all g.fits xs) behind fit))
+    (and_from (eqb (length xs) (length xs)) (are_behind before None xs && list_all g.fits xs) (eq-eqb (length xs) (length xs) refl) (and_from (are_behind before None xs) (list_all g.fits xs) behind fit))
 
 pub spot_fits : (at : List Coordinates) → is_spot at ≡ true → list_all place.fits at ≡ true → (counted (between 1 3) place_before place).fits at ≡ true
 spot_fits at spot fit =
@@ -72,4 +72,4 @@ corners_fit corners least most rises fit = counted_fits corner_count place_befor
     few : corner_count.fits (length corners) ≡ true
     few =
         and_from (leb 1 (length corners)) ((tested (λ d. ltb d 3) (number 1)).fits (length corners - 1)) (le-leb 1 (length corners) least)
-            (and_from (ltb (length corners - 1) 256) (ltb (length corners - 1) 3) (lt-ltb (length corners - 1) 256 (omega arith)) (lt-ltb (length corners - 1) 3 (omega arith)))
+        (and_from (ltb (length corners - 1) 256) (ltb (length corners - 1) 3) (lt-ltb (length corners - 1) 256 (omega arith)) (lt-ltb (length corners - 1) 3 (omega arith)))

@@ -1,8 +1,7 @@
 -- The grammar of letters is lawful.
-use Rattle.std.proofs.Common.{◌≡◌, ℕ, zero, suc, ◌+◌, ◌<◌, ◌≤◌, Bool, true, false, cond, leb, ltb, eqb, ◌&&◌, length, List, [], ◌∷◌, ◌++◌, Option, Some, None, Result, Ok, Err, refl, sym, ap, subst, ◌∙◌, arith}
+use Rattle.std.proofs.Common.{◌≡◌, ℕ, zero, suc, Bool, true, cond, leb, ltb, eqb, ◌&&◌, length, List, [], ◌++◌, Option, Some, Result, Ok, Err, refl, sym, ap, subst, ◌∙◌, arith}
 use Rattle.std.specs.Prelude.{IfOk}
-use Rattle.std.proofs.lemmas.Bool.{and_parts, eqb-true, eq-eqb, false≢true, leb-true}
-use Rattle.std.proofs.lemmas.Bool.Decides.{nat_tests}
+use Rattle.std.proofs.lemmas.Bool.{and_parts, eqb-true, false≢true, leb-true}
 use Rattle.std.proofs.lemmas.List.{append-nil, nil_from_length}
 use Rattle.ma_cells.specs.declared.batch.Batch.{Batch}
 use Rattle.cavity_rank.specs.Operations.{Operation}
@@ -18,11 +17,11 @@ use Rattle.letters.specs.declared.letter.Reply.{Reply}
 use Rattle.letters.specs.Bodies.{batch, body_of, delivered_in, ghosts_in, kind, kind_at, kind_number, kind_of, list_of, operations, ordered_in, post, post_in, proposed_in, reply, reply_in, voted_in}
 use Rattle.letters.specs.Entries.{mark, mark_before, operation, operation_before, shared, tet, tet_before}
 use Rattle.letters.specs.Fields.{between, place, place_before}
-use Rattle.letters.specs.Grammar.{◌>>=◌, Grammar, chain, counted, fits_in, number, ◌then◌}
+use Rattle.letters.specs.Grammar.{Grammar, chain, number, ◌then◌}
 use Rattle.letters.specs.Laws.{AreBytes, IsLawful}
 use Rattle.letters.specs.Letters.{Gives, IsLetter, NoSpellingBeginsAnother, letter, read, spelling}
-use Rattle.letters.specs.Sharing.{SharedPlace, shared_before}
-use Rattle.letters.proofs.Combined.{IsVariant, bind_ok, chain_lawful, guard_ok, ok_is, renamed_lawful, variant_lawful}
+use Rattle.letters.specs.Sharing.{shared_before}
+use Rattle.letters.proofs.Combined.{bind_ok, chain_lawful, guard_ok, ok_is, renamed_lawful, variant_lawful}
 use Rattle.letters.proofs.EntryLaws.{mark_lawful, operation_lawful, shared_lawful, tet_lawful}
 use Rattle.letters.proofs.FieldLaws.{between_lawful, place_lawful}
 use Rattle.letters.proofs.Listed.{counted_lawful}
@@ -40,18 +39,18 @@ marks_lawful = list_lawful mark_before mark mark_lawful
 post_lawful : IsLawful post
 post_lawful =
     renamed_lawful _ _ (number 4 then list_of place_before place then list_of mark_before mark)
-        (then_lawful (number 4) (list_of place_before place then list_of mark_before mark) (number_lawful 4)
-            (then_lawful (list_of place_before place) (list_of mark_before mark) (list_lawful place_before place place_lawful) marks_lawful)) (λ p h. refl) (λ b. refl)
+    (then_lawful (number 4) (list_of place_before place then list_of mark_before mark) (number_lawful 4)
+    (then_lawful (list_of place_before place) (list_of mark_before mark) (list_lawful place_before place place_lawful) marks_lawful)) (λ p h. refl) (λ b. refl)
 
 reply_lawful : IsLawful reply
 reply_lawful =
     renamed_lawful _ _ (list_of shared_before shared then list_of mark_before mark)
-        (then_lawful (list_of shared_before shared) (list_of mark_before mark) (list_lawful shared_before shared shared_lawful) marks_lawful) (λ p h. refl) (λ b. refl)
+    (then_lawful (list_of shared_before shared) (list_of mark_before mark) (list_lawful shared_before shared shared_lawful) marks_lawful) (λ p h. refl) (λ b. refl)
 
 batch_lawful : IsLawful batch
 batch_lawful =
     renamed_lawful _ _ (list_of tet_before tet then list_of mark_before mark)
-        (then_lawful (list_of tet_before tet) (list_of mark_before mark) (list_lawful tet_before tet tet_lawful) marks_lawful) (λ p h. refl) (λ b. refl)
+    (then_lawful (list_of tet_before tet) (list_of mark_before mark) (list_lawful tet_before tet tet_lawful) marks_lawful) (λ p h. refl) (λ b. refl)
 
 operations_lawful : IsLawful operations
 operations_lawful = list_lawful operation_before operation operation_lawful
@@ -149,8 +148,8 @@ behind_kind k = number 4 then number 4 then number 1 then number 1 then body_of 
 behind_lawful : (k : LetterKind) → IsLawful (behind_kind k)
 behind_lawful k =
     then_lawful (number 4) (number 4 then number 1 then number 1 then body_of k) (number_lawful 4)
-        (then_lawful (number 4) (number 1 then number 1 then body_of k) (number_lawful 4)
-            (then_lawful (number 1) (number 1 then body_of k) (number_lawful 1) (then_lawful (number 1) (body_of k) (number_lawful 1) (body_lawful k))))
+    (then_lawful (number 4) (number 1 then number 1 then body_of k) (number_lawful 4)
+    (then_lawful (number 1) (number 1 then body_of k) (number_lawful 1) (then_lawful (number 1) (body_of k) (number_lawful 1) (body_lawful k))))
 
 letter_lawful : IsLawful letter
 letter_lawful = renamed_lawful _ (λ l. (kind_of l.body, (l.round, (l.phase, (l.sender, (l.target, l.body)))))) (chain kind behind_kind) (chain_lawful kind behind_kind kind_lawful behind_lawful) there (λ l. refl)
@@ -187,6 +186,7 @@ no_spelling_begins_another l m rest fl fm e =
     let other : letter.reading 0 (spelling m) ≡ Ok (l, rest) = ap (letter.reading 0) e ∙ letter_lawful.again 0 l rest fl in
     let both = ok_is (m, []) (l, rest) (sym one ∙ other) in
     (ap (λ (p : Letter × List ℕ). p.1) (sym both), ap (λ (p : Letter × List ℕ). p.0) both)
+
 pub is_found : (bytes : List ℕ) (r : Result Letter LetterFault) → AreBytes bytes → Gives (λ l. l) r (read bytes) → IfOk r (λ l. IsLetter l × (bytes ≡ spelling l))
 is_found bytes (Ok l) fit given = read_is bytes l fit given
 is_found bytes (Err fault) fit given = tt

@@ -1,9 +1,8 @@
 -- Lists of entries are lawful where an entry is.
-use Rattle.std.proofs.Common.{◌≡◌, ℕ, zero, suc, ◌+◌, ◌-◌, Bool, true, false, cond, eqb, ◌&&◌, List, [], ◌∷◌, ◌++◌, length, Option, Some, None, Result, Ok, Err, refl, sym, ap, ap₂, subst, ◌∙◌, append_assoc, arith}
+use Rattle.std.proofs.Common.{◌≡◌, ℕ, zero, suc, Bool, true, eqb, ◌&&◌, List, [], ◌∷◌, ◌++◌, length, Option, Some, None, Ok, refl, sym, ap, subst, ◌∙◌, append_assoc}
 use Rattle.std.specs.List.{flat_map, list_all}
-use Rattle.std.proofs.lemmas.Bool.{and_parts, and_from, eq-eqb, eqb-true, false≢true}
+use Rattle.std.proofs.lemmas.Bool.{and_parts, and_from, eq-eqb, eqb-true}
 use Rattle.std.proofs.lemmas.List.Concat.{flat_map-cons}
-use Rattle.letters.specs.declared.fault.LetterFault.{LetterFault}
 use Rattle.letters.specs.Grammar.{◌>>=◌, Grammar, are_behind, chain, comes_behind, counted, entries, entries_at, tested}
 use Rattle.letters.specs.Laws.{AreBytes, IsLawful}
 use Rattle.letters.proofs.Combined.{bind_ok, chain_lawful, ok_is, renamed_lawful, tested_lawful}
@@ -41,7 +40,7 @@ module _ {X : Type 0} (before : X → X → Bool) (g : Grammar X) (lawful : IsLa
       let b = and_parts (comes_behind before last x) (are_behind before (Some x) xs) behind in
       let f = and_parts (g.fits x) (list_all g.fits xs) fit in
       let regrouped : flat_map g.spelling (x ∷ xs) ++ rest ≡ g.spelling x ++ (flat_map g.spelling xs ++ rest) =
-          ap (λ (t : List ℕ). t ++ rest) (flat_map-cons g.spelling x xs) ∙ append_assoc (g.spelling x) (flat_map g.spelling xs) rest in
+      ap (λ (t : List ℕ). t ++ rest) (flat_map-cons g.spelling x xs) ∙ append_assoc (g.spelling x) (flat_map g.spelling xs) rest in
       ap (λ (t : List ℕ). entries_at before g end t last (suc (length xs))) regrouped
       ∙ rw ((tested_lawful (comes_behind before last) g lawful).again end x (flat_map g.spelling xs ++ rest) (and_from (g.fits x) (comes_behind before last x) f.0 b.0)) (rw (again_entries end (Some x) xs rest b.1 f.1) refl)
 

@@ -1,5 +1,5 @@
 -- Entries read one after the other, as a loop does.
-use Rattle.std.proofs.Common.{◌≡◌, ℕ, zero, suc, ◌-◌, ◌+◌, ◌≤◌, ◌<◌, Bool, true, false, cond, ◌&&◌, List, [], ◌∷◌, ◌++◌, length, get_or, Option, Some, None, Result, Ok, Err, refl, sym, ap, subst, ◌∙◌, append_assoc, arith}
+use Rattle.std.proofs.Common.{◌≡◌, ℕ, zero, suc, ◌-◌, ◌+◌, ◌≤◌, ◌<◌, Bool, true, false, cond, List, [], ◌∷◌, ◌++◌, length, get_or, Option, Some, Result, Ok, Err, refl, sym, ap, subst, ◌∙◌, append_assoc, arith}
 use Rattle.std.proofs.lemmas.Bool.{and_from}
 use Rattle.std.proofs.lemmas.List.{append-nil}
 use Rattle.letters.specs.declared.fault.LetterFault.{LetterFault}
@@ -87,7 +87,7 @@ module _ {X : Type 0} (before : X → X → Bool) (g : Grammar X) (end : ℕ) wh
       let made : List X × List ℕ = (a.0.0 ∷ b.0.0, b.0.1) in
       let behind : comes_behind before last a.0.0 ≡ true = subst (λ (x : X × List ℕ). comes_behind before last x.0 ≡ true) d.1 d.0 in
       subst (λ (q : List X × List ℕ). are_behind before last q.0 ≡ true) (ok_is made p b.2)
-          (and_from (comes_behind before last a.0.0) (are_behind before (Some a.0.0) b.0.0) behind (behind_read a.0.1 (Some a.0.0) n b.0 b.1))
+      (and_from (comes_behind before last a.0.0) (are_behind before (Some a.0.0) b.0.0) behind (behind_read a.0.1 (Some a.0.0) n b.0 b.1))
 
   -- and are as many as they should be
   pub count_read : (bytes : List ℕ) (last : Option X) (n : ℕ) (p : List X × List ℕ) → entries_at before g end bytes last n ≡ Ok p → length p.0 ≡ n

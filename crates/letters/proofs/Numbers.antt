@@ -1,15 +1,15 @@
 -- Numbers in n bytes, there and back.
-use Rattle.std.proofs.Common.{◌≡◌, ℕ, zero, suc, ◌+◌, ◌*◌, ◌^◌, ◌<◌, ◌≤◌, ◌/◌, ◌%◌, inl, inr, Bool, true, false, cond, ltb, List, [], ◌∷◌, ◌++◌, length, take, drop, get_or, slice_index, Result, Ok, Err, refl, sym, ap, ap₂, subst, ◌∙◌, arith}
+use Rattle.std.proofs.Common.{◌≡◌, ℕ, zero, suc, ◌+◌, ◌*◌, ◌^◌, ◌<◌, ◌≤◌, ◌/◌, inl, inr, Bool, true, false, cond, ltb, List, [], ◌∷◌, ◌++◌, length, take, drop, get_or, Ok, Err, refl, sym, ap, ap₂, subst, ◌∙◌, arith}
 use Rattle.std.specs.Int.{byte_at, bytes_high_first}
 use Rattle.std.proofs.Math.Nat.{mod-lt}
 use Rattle.std.proofs.lemmas.Bool.{cases_lt, ltb-false, ltb-true, le-ltb, lt-ltb}
 use Rattle.std.proofs.lemmas.Nat.{div-mul-add}
-use Rattle.std.proofs.lemmas.List.{append-nil, drop_at, take_at, take-append-drop, length-append, length-take, get_or-drop, get_or-take, get_or_past}
+use Rattle.std.proofs.lemmas.List.{append-nil, drop_at, take-append-drop, length-append, length-take, get_or-drop, get_or-take, get_or_past}
 use Rattle.byteorder.specs.Endian.{big_bytes, big_from, big_number}
-use Rattle.byteorder.specs.Numbers.{big_from-cons, big_from-bytes, big_from-lt, big_from-take, big_number-reads_back, length-bytes_high_first}
+use Rattle.byteorder.specs.Numbers.{big_from-cons, big_from-lt, big_from-take, big_number-reads_back, length-bytes_high_first}
 use Rattle.letters.specs.declared.fault.LetterFault.{LetterFault}
 use Rattle.letters.specs.declared.fault.LetterFault.TheVariants.{Short}
-use Rattle.letters.specs.Grammar.{◌>>=◌, Grammar, number}
+use Rattle.letters.specs.Grammar.{number}
 use Rattle.letters.specs.Laws.{AreBytes, IsLawful}
 
 pub bytes-drop : (n : ℕ) (bytes : List ℕ) → AreBytes bytes → AreBytes (drop n bytes)
@@ -36,7 +36,7 @@ told (suc n) [] ys k l hx hy e = absurd cc
 told (suc n) (x ∷ xs) [] k l hx hy e = absurd cc
 told (suc n) (x ∷ xs) (y ∷ ys) k l hx hy e =
     let both : x * 256 ^ n + big_from 0 n xs ≡ y * 256 ^ n + big_from 0 n ys =
-        ap (λ (t : ℕ). x * 256 ^ n + t) (sym (big_from-cons 0 n x xs)) ∙ e ∙ ap (λ (t : ℕ). y * 256 ^ n + t) (big_from-cons 0 n y ys) in
+    ap (λ (t : ℕ). x * 256 ^ n + t) (sym (big_from-cons 0 n x xs)) ∙ e ∙ ap (λ (t : ℕ). y * 256 ^ n + t) (big_from-cons 0 n y ys) in
     let parts = lead_is x y (256 ^ n) (big_from 0 n xs) (big_from 0 n ys) (big_from-lt 0 n xs (λ i. hx (suc i))) (big_from-lt 0 n ys (λ i. hy (suc i))) both in
     ap₂ (λ (b : ℕ) (bs : List ℕ). b ∷ bs) parts.0 (told n xs ys (less (length xs) n k) (less (length ys) n l) (λ i. hx (suc i)) (λ i. hy (suc i)) parts.1)
   where
@@ -85,7 +85,7 @@ number_lawful n = record { read = reads; again = again }
         let long : n ≤ length bytes = ltb-false _ _ g.0 in
         let front : big_number n (take n bytes) ≡ big_number n bytes = big_from-take 0 n n bytes (omega arith) in
         let spelled : big_bytes n (big_number n bytes) ≡ take n bytes =
-            ap (big_bytes n) (sym front) ∙ spelled_again n (take n bytes) (omega (arith, length-take n bytes)) (bytes-take n bytes fit) in
+        ap (big_bytes n) (sym front) ∙ spelled_again n (take n bytes) (omega (arith, length-take n bytes)) (bytes-take n bytes fit) in
         let whole : bytes ≡ big_bytes n (big_number n bytes) ++ drop n bytes = sym (take-append-drop n bytes) ∙ ap (λ (t : List ℕ). t ++ drop n bytes) (sym spelled) in
         subst (λ (p : ℕ × List ℕ). (bytes ≡ big_bytes n p.0 ++ p.1) × (ltb p.0 (256 ^ n) ≡ true)) g.1 (whole, lt-ltb _ _ (big_from-lt 0 n bytes fit))
 

@@ -1,5 +1,5 @@
 -- Tetrahedra as they are read.
-use Rattle.std.proofs.Common.{◌≡◌, ℕ, ◌-◌, Bool, true, false, cond, not, length, List, Option, Some, None, Result, Ok, Err, refl, sym, ap, ◌∙◌}
+use Rattle.std.proofs.Common.{◌≡◌, ℕ, ◌-◌, Bool, true, false, cond, not, length, List, Option, Some, None, Result, Ok, Err, refl, sym, ◌∙◌}
 use Rattle.std.specs.Prelude.{ℤ}
 use Rattle.ma_geom.specs.Coordinates.{Coordinates}
 use Rattle.ma_cells.specs.Tetrahedron.{Tetrahedron, is_flat}

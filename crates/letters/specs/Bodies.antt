@@ -1,8 +1,5 @@
 -- Grammars of what letters carry: each a list, or lists one after another.
 use Rattle.std.specs.Prelude.{ℕ, Bool, ◌==◌, List, Option, Some, None, if◌then◌else◌}
-use Rattle.ma_geom.specs.Coordinates.{Coordinates}
-use Rattle.ma_cells.specs.Cells.{CellMark}
-use Rattle.ma_cells.specs.Tetrahedron.{Tetrahedron}
 use Rattle.ma_cells.specs.declared.batch.Batch.{Batch}
 use Rattle.cavity_rank.specs.Operations.{Operation}
 use Rattle.letters.specs.declared.letter.Body.{Body}
@@ -14,7 +11,7 @@ use Rattle.letters.specs.declared.letter.Reply.{Reply}
 use Rattle.letters.specs.Entries.{mark, mark_before, operation, operation_before, shared, tet, tet_before}
 use Rattle.letters.specs.Fields.{between, place, place_before}
 use Rattle.letters.specs.Grammar.{Grammar, counted, number, renamed, variant, ◌then◌}
-use Rattle.letters.specs.Sharing.{SharedPlace, shared_before}
+use Rattle.letters.specs.Sharing.{shared_before}
 
 -- a list: its length in eight bytes, and its entries, each behind the one before it
 abbrev pub list_of : {X : Type 0} → (X → X → Bool) → Grammar X → Grammar (List X)

@@ -1,5 +1,5 @@
 -- Grammars of the fields of letters.
-use Rattle.std.specs.Prelude.{ℕ, ℤ, pos, negsuc, ◌+◌, ◌-◌, ◌^◌, Bool, ◌&&◌, nat_lt, nat_le, unsigned_abs}
+use Rattle.std.specs.Prelude.{ℕ, ℤ, pos, negsuc, ◌^◌, Bool, ◌&&◌, nat_lt, nat_le, unsigned_abs}
 use Rattle.std.specs.Int.{w32, cast_signed, cast_unsigned}
 use Rattle.std.specs.Ordering.{is_lt, nat_cmp}
 use Rattle.ma_geom.specs.Coordinates.{Coordinates, limit, place_cmp}

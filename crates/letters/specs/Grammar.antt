@@ -1,9 +1,9 @@
 -- Grammars of bytes: which values have a spelling, how each is spelled, and how a value is read field by field.
-use Rattle.std.specs.Prelude.{◌≡◌, ℕ, zero, suc, ◌-◌, ◌^◌, ◌==◌, ◌&&◌, ◌++◌, Bool, true, false, nat_lt, if◌then◌else◌, length, drop, map, List, [], ◌∷◌, Option, Some, None, Result, Ok, Err}
+use Rattle.std.specs.Prelude.{ℕ, zero, suc, ◌-◌, ◌^◌, ◌==◌, ◌&&◌, ◌++◌, Bool, true, false, nat_lt, if◌then◌else◌, length, drop, List, [], ◌∷◌, Option, Some, None, Result, Ok, Err}
 use Rattle.std.specs.List.{flat_map, list_all}
 use Rattle.byteorder.specs.Endian.{big_bytes, big_number}
 use Rattle.letters.specs.declared.fault.LetterFault.{LetterFault}
-use Rattle.letters.specs.declared.fault.LetterFault.TheVariants.{Short, Long, BadField, Memory}
+use Rattle.letters.specs.declared.fault.LetterFault.TheVariants.{Short, BadField}
 
 infixl 10 ◌>>=◌
 abbrev pub ◌>>=◌ : {X Y : Type 0} → Result X LetterFault → (X → Result Y LetterFault) → Result Y LetterFault

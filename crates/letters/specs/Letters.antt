@@ -10,8 +10,8 @@ use Rattle.letters.specs.Grammar.{◌>>=◌, Grammar, chain, number, renamed, �
 abbrev pub letter : Grammar Letter
 letter =
     renamed (λ p. record { round = p.1.0; phase = p.1.1.0; sender = p.1.1.1.0; target = p.1.1.1.1.0; body = p.1.1.1.1.1 })
-        (λ l. (kind_of l.body, (l.round, (l.phase, (l.sender, (l.target, l.body))))))
-        (chain kind (λ k. number 4 then number 4 then number 1 then number 1 then body_of k))
+    (λ l. (kind_of l.body, (l.round, (l.phase, (l.sender, (l.target, l.body))))))
+    (chain kind (λ k. number 4 then number 4 then number 1 then number 1 then body_of k))
 
 -- that a letter has a spelling
 abbrev pub IsLetter : Letter → Type 0

@@ -16,14 +16,22 @@ use ma_cells::{Ascending, Batch, Mark, Tet};
 use ma_geom::Place;
 use std::alloc::Global;
 
-fn places_at(alloc: Global, end: usize, bytes: &[u8]) -> Result<(Ascending<Place>, &[u8]), LetterFault>
+fn places_at(
+    alloc: Global,
+    end: usize,
+    bytes: &[u8],
+) -> Result<(Ascending<Place>, &[u8]), LetterFault>
     ensures { Gives (λ x. (x.0, x.1.now)) result ((list_of place_before place).reading end bytes.now) }
 {
     let (places, rest) = list_at(alloc, end, bytes)?;
     Ok((Ascending::from_vec(places), rest))
 }
 
-fn marks_at(alloc: Global, end: usize, bytes: &[u8]) -> Result<(Ascending<Mark>, &[u8]), LetterFault>
+fn marks_at(
+    alloc: Global,
+    end: usize,
+    bytes: &[u8],
+) -> Result<(Ascending<Mark>, &[u8]), LetterFault>
     ensures { Gives (λ x. (x.0, x.1.now)) result ((list_of mark_before mark).reading end bytes.now) }
 {
     let (marks, rest) = list_at(alloc, end, bytes)?;

@@ -19,3 +19,6 @@ pub use fault::LetterFault;
 pub use laws::no_spelling_begins_another;
 pub use letter::{Body, Letter, LetterKind, Post, Reply};
 pub use shared::{Shared, SharedPlaces, are_ascending};
+
+#[cfg(test)]
+mod tests;

@@ -1,4 +1,4 @@
-use Rattle.std.proofs.Common.{◌≡◌, ap, sym, Some, ◌∙◌}
+use Rattle.std.proofs.Common.{ap, sym, Some, ◌∙◌}
 use Rattle.letters.specs.Fields.{place_before}
 use Rattle.letters.specs.Grammar.{comes_behind}
 use Rattle.letters.proofs.Looping.{last_is}

@@ -1,7 +1,6 @@
-use Rattle.std.proofs.Common.{◌≡◌, w32, refl, ◌∙◌}
+use Rattle.std.proofs.Common.{w32, refl, ◌∙◌}
 use Rattle.std.proofs.lemmas.Int.{to_z-of_z}
 use Rattle.ma_cells.proofs.Corners.{ascending_is}
-use Rattle.letters.specs.Entries.{solid_tet}
 use Rattle.letters.proofs.entries.tet_of.Goals as goal
 
 pub returns : goal.returns

@@ -1,7 +1,6 @@
-use Rattle.std.proofs.Common.{◌≡◌, ap, sym, ◌∙◌, ◌++◌, ◌∷◌, [], true, false}
-use Rattle.std.specs.Prelude.{None, Err}
+use Rattle.std.proofs.Common.{◌≡◌, ap, sym, ◌∙◌, true, false}
+use Rattle.std.specs.Prelude.{None}
 use Rattle.std.proofs.lemmas.Result.{err_from_is_err_and}
-use Rattle.letters.specs.declared.fault.LetterFault.TheVariants.{BadField}
 use Rattle.letters.specs.Grammar.{comes_behind, entries_at, last_of}
 use Rattle.letters.proofs.Looping.{behind_read, count_read, ends, goes_on, is_done, stops}
 use Rattle.letters.proofs.lists.entries.Goals as goal
@@ -19,9 +18,9 @@ returns-then-not-is_behind-clause-gives g c =
     let grammar = g.T.Entry.grammar in
     let item = c.in_ok-item.item in
     let behind : comes_behind before (last_of c.loop.items.items) item ≡ false =
-        ap (λ xs. comes_behind before (last_of xs) item) (sym c.deref.ensures.value) ∙ sym c.is_behind.ensures ∙ c.if-not-is_behind.true in
+    ap (λ xs. comes_behind before (last_of xs) item) (sym c.deref.ensures.value) ∙ sym c.is_behind.ensures ∙ c.if-not-is_behind.true in
     rw c.place_of.ensures (stops before grammar c.args.end c.loop.items.items c.args.count c.loop.counter c.loop.rest.now item c.in_ok-item.after.now (entries_at before grammar c.args.end c.args.bytes.now None c.args.count)
-        c.loop-test.true c.in_ok-item.ensures behind c.loop.invariant)
+    c.loop-test.true c.in_ok-item.ensures behind c.loop.invariant)
 
 pub loop-preserved : goal.loop-preserved
 loop-preserved g c =
@@ -29,9 +28,9 @@ loop-preserved g c =
     let grammar = g.T.Entry.grammar in
     let item = c.in_ok-item.item in
     let behind : comes_behind before (last_of c.loop.items.items) item ≡ true =
-        ap (λ xs. comes_behind before (last_of xs) item) (sym c.deref.ensures.value) ∙ sym c.is_behind.ensures ∙ c.if-not-is_behind.false in
+    ap (λ xs. comes_behind before (last_of xs) item) (sym c.deref.ensures.value) ∙ sym c.is_behind.ensures ∙ c.if-not-is_behind.false in
     rw c.in_ok-push.ensures.items (goes_on before grammar c.args.end c.loop.items.items c.args.count c.loop.counter c.loop.rest.now item c.in_ok-item.after.now (entries_at before grammar c.args.end c.args.bytes.now None c.args.count)
-        c.loop-test.true c.in_ok-item.ensures behind c.loop.invariant)
+    c.loop-test.true c.in_ok-item.ensures behind c.loop.invariant)
 
 pub returns-clause-behind : goal.returns-clause-behind
 returns-clause-behind g c =
@@ -39,7 +38,7 @@ returns-clause-behind g c =
     let grammar = g.T.Entry.grammar in
     let total = entries_at before grammar c.args.end c.args.bytes.now None c.args.count in
     behind_read before grammar c.args.end c.args.bytes.now None c.args.count (c.loop.items.items, c.loop.rest.now)
-        (is_done before grammar c.args.end c.loop.items.items c.args.count c.loop.counter c.loop.rest.now total c.loop-test.false c.loop.invariant)
+    (is_done before grammar c.args.end c.loop.items.items c.args.count c.loop.counter c.loop.rest.now total c.loop-test.false c.loop.invariant)
 
 pub returns-clause-count : goal.returns-clause-count
 returns-clause-count g c =
@@ -47,4 +46,4 @@ returns-clause-count g c =
     let grammar = g.T.Entry.grammar in
     let total = entries_at before grammar c.args.end c.args.bytes.now None c.args.count in
     count_read before grammar c.args.end c.args.bytes.now None c.args.count (c.loop.items.items, c.loop.rest.now)
-        (is_done before grammar c.args.end c.loop.items.items c.args.count c.loop.counter c.loop.rest.now total c.loop-test.false c.loop.invariant)
+    (is_done before grammar c.args.end c.loop.items.items c.args.count c.loop.counter c.loop.rest.now total c.loop-test.false c.loop.invariant)

@@ -1,5 +1,5 @@
-use Rattle.std.proofs.Common.{◌≡◌, length, ap, sym, ◌-◌, get_or, Some, ◌∙◌}
-use Rattle.letters.specs.Grammar.{comes_behind, last_of}
+use Rattle.std.proofs.Common.{ap, sym, Some, ◌∙◌}
+use Rattle.letters.specs.Grammar.{comes_behind}
 use Rattle.letters.proofs.Looping.{last_is}
 use Rattle.letters.proofs.lists.is_behind.Goals as goal
 

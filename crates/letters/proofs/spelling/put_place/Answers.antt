@@ -18,6 +18,6 @@ returns-clause-text c =
     let p = c.args.p in
     let put : List ℕ → ℤ → List ℕ = λ old z. old ++ signed.spelling z in
     three c.args.out.now.items (signed.spelling p.x) (signed.spelling p.y) (signed.spelling p.z) c.put_signed.new.out.items c.put_signed-2.new.out.items c.put_signed-3.new.out.items
-        (c.in_ok-put_signed.ensures.text ∙ ap (put c.args.out.now.items) (read c.x.result p.x c.x.ensures.range c.x.ensures.value))
-        (c.in_ok-put_signed-2.ensures.text ∙ ap (put c.put_signed.new.out.items) (read c.y.result p.y c.y.ensures.range c.y.ensures.value))
-        (c.in_ok-put_signed-3.ensures.text ∙ ap (put c.put_signed-2.new.out.items) (read c.z.result p.z c.z.ensures.range c.z.ensures.value))
+    (c.in_ok-put_signed.ensures.text ∙ ap (put c.args.out.now.items) (read c.x.result p.x c.x.ensures.range c.x.ensures.value))
+    (c.in_ok-put_signed-2.ensures.text ∙ ap (put c.put_signed.new.out.items) (read c.y.result p.y c.y.ensures.range c.y.ensures.value))
+    (c.in_ok-put_signed-3.ensures.text ∙ ap (put c.put_signed-2.new.out.items) (read c.z.result p.z c.z.ensures.range c.z.ensures.value))
