@@ -1,0 +1,12 @@
+mod Numbers
+mod Combined
+mod Listed
+mod FieldLaws
+mod EntryLaws
+mod LetterLaws
+mod Looping
+mod Joining
+mod Orders
+mod Tetrahedra
+mod Marks
+mod Fitting
