@@ -1,5 +1,5 @@
 -- Items of lists.
-use Rattle.std.proofs.Common.{◌≡◌, ◌⊎◌, inl, inr, ⊎_elim, Bool, true, false, cond, List, [], ◌∷◌, refl, sym, subst, ◌∙◌}
+use Rattle.std.proofs.Common.{◌≡◌, ◌⊎◌, inl, inr, ⊎_elim, Bool, true, false, cond, List, [], ◌∷◌, refl, sym, ap₂, subst, ◌∙◌}
 use Rattle.std.specs.Prelude.{◌↔◌}
 use Rattle.std.specs.List.{AllByRecursion, filter, flat_map}
 use Rattle.std.proofs.lemmas.Bool.{false≢true}
@@ -53,3 +53,16 @@ module _ {X Y : Type 0} (f : X → List Y) where
 
   pub from_flat_map : (y : Y) (xs : List X) → IsIn y (flat_map f xs) → (x : X) × IsIn x xs × IsIn y (f x)
   from_flat_map y xs i = witness (λ w. IsIn y (f w)) xs ((any-flat_map (λ z. y ≡ z) f xs).0 i)
+
+module _ {X : Type 0} (test : X → Bool) where
+  pub in_filter : (x : X) (xs : List X) → IsIn x xs → test x ≡ true → IsIn x (filter test xs)
+  in_filter x xs i h = (any-filter (λ y. x ≡ y) test xs).1 (any (λ y. (test y ≡ true) × (x ≡ y)) x xs i (h, refl))
+
+  pub from_filter : (x : X) (xs : List X) → IsIn x (filter test xs) → IsIn x xs × (test x ≡ true)
+  from_filter x xs i =
+      let w = witness (λ y. (test y ≡ true) × (x ≡ y)) xs ((any-filter (λ y. x ≡ y) test xs).0 i) in
+      (subst (λ y. IsIn y xs) (sym w.2.1) w.1, subst (λ y. test y ≡ true) (sym w.2.1) w.2.0)
+
+pub filter-alike : {X : Type 0} (f g : X → Bool) → ((x : X) → f x ≡ g x) → (xs : List X) → filter f xs ≡ filter g xs
+filter-alike f g alike [] = refl
+filter-alike f g alike (x ∷ xs) = ap₂ (λ b ys. cond b (x ∷ ys) ys) (alike x) (filter-alike f g alike xs)

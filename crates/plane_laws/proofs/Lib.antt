@@ -6,3 +6,4 @@ pub mod Fans
 pub mod Orders
 pub mod Collapsed
 pub mod Segments
+pub mod Triangles
