@@ -1,5 +1,5 @@
 -- A point of a plane stays on the triangles around a vertex that goes to another place of the plane.
-use Rattle.std.proofs.Common.{◌≡◌, ◌≢◌, ◌⊎◌, inl, inr, ⊎_elim, Bool, true, false, cond, not, ◌||◌, List, [], ◌∷◌, ◌++◌, refl, sym, ap, ap₂, subst, ◌∙◌, arith}
+use Rattle.std.proofs.Common.{◌≡◌, ◌≢◌, ◌⊎◌, inl, inr, ⊎_elim, Bool, true, false, cond, not, ◌||◌, List, [], ◌∷◌, ◌++◌, refl, sym, ap, subst, ◌∙◌, arith}
 use Rattle.std.specs.Prelude.{◌↔◌, ℤ, pos, ◌+ℤ◌}
 use Rattle.std.specs.Int.{int_signum}
 use Rattle.std.specs.List.{AllByRecursion, flat_map}
@@ -19,12 +19,11 @@ use Rattle.ma_cells.proofs.Permutations.{same, tied}
 use Rattle.ma_cover.specs.Classification.{AnyByRecursion}
 use Rattle.ma_cover.specs.Inside.{are_alike, is_inside}
 use Rattle.ma_cover.specs.OnFaces.{IsOnTriangle}
-use Rattle.mesh_laws.specs.FivePlaces.{enclosed}
 use Rattle.mesh_laws.specs.Points.{IsMovedOffPlane, IsOffPlane}
 use Rattle.mesh_laws.proofs.Lists.{all_parts}
 use Rattle.mesh_laws.proofs.MovedOff.{bent}
 use Rattle.mesh_laws.proofs.Weights.{alike_some, is_or_not}
-use Rattle.plane_laws.specs.Triangles.{AreOpposite, CanMoveInPlane, Edge, IsNoRim, IsOnFan, PlaneKeepsPoints, link_without, thirds}
+use Rattle.plane_laws.specs.Planes.{AreOpposite, CanMoveInPlane, Edge, IsInnerOrOnLine, IsOnFan, PlaneKeepsPoints, link_without, thirds}
 use Rattle.plane_laws.proofs.InPlane.{Lies, a_lies, flat_in_plane, side_in_plane, solid_above, top, turn_above}
 use Rattle.plane_laws.proofs.Items.{IsIn, all_in, any, any-filter, each, witness}
 use Rattle.plane_laws.proofs.Near.{closed, near}
@@ -82,13 +81,13 @@ module _ (n a v : Coordinates) (link : List Edge) (m : CanMoveInPlane n a v link
       by false false f g = tt
 
   -- an edge of none of the triangles has no third corners
-  no_rim_or_none : (z : Coordinates) (es : List Edge) → AllByRecursion (λ e. IsNoRim a v link e.x × IsNoRim a v link e.y) es → IsNoRim a v link z ⊎ (thirds z es ≡ [])
-  no_rim_or_none z [] h = inr refl
-  no_rim_or_none z (e ∷ es) h = by (eq z e.x) (eq z e.y) refl refl (no_rim_or_none z es h.1)
+  inner_or_none : (z : Coordinates) (es : List Edge) → AllByRecursion (λ e. IsInnerOrOnLine a v link e.x × IsInnerOrOnLine a v link e.y) es → IsInnerOrOnLine a v link z ⊎ (thirds z es ≡ [])
+  inner_or_none z [] h = inr refl
+  inner_or_none z (e ∷ es) h = by (eq z e.x) (eq z e.y) refl refl (inner_or_none z es h.1)
     where
-      by : (s t : Bool) → eq z e.x ≡ s → eq z e.y ≡ t → IsNoRim a v link z ⊎ (thirds z es ≡ []) → IsNoRim a v link z ⊎ (cond s (e.y ∷ []) (cond t (e.x ∷ []) []) ++ thirds z es ≡ [])
-      by true t f g rest = inl (subst (IsNoRim a v link) (sym (same z e.x f)) h.0.0)
-      by false true f g rest = inl (subst (IsNoRim a v link) (sym (same z e.y g)) h.0.1)
+      by : (s t : Bool) → eq z e.x ≡ s → eq z e.y ≡ t → IsInnerOrOnLine a v link z ⊎ (thirds z es ≡ []) → IsInnerOrOnLine a v link z ⊎ (cond s (e.y ∷ []) (cond t (e.x ∷ []) []) ++ thirds z es ≡ [])
+      by true t f g rest = inl (subst (IsInnerOrOnLine a v link) (sym (same z e.x f)) h.0.0)
+      by false true f g rest = inl (subst (IsInnerOrOnLine a v link) (sym (same z e.y g)) h.0.1)
       by false false f g rest = rest
 
   opposite_even : (z : Coordinates) (ys : List Coordinates) → AllByRecursion (λ y. In z × In y) ys → AreOpposite a z ys → sum (turn_at a v q z) ys ≡ pos 0
@@ -107,7 +106,7 @@ module _ (n a v : Coordinates) (link : List Edge) (m : CanMoveInPlane n a v link
   even s z =
       ⊎_elim (λ none. ⊎_elim (λ line. inl (nothing (is_inside s (v ∷ a ∷ z ∷ q ∷ [])) (on_line line))) (λ two. inr (opposite_even z (thirds z link) (thirds_in z link m.corners) two)) none)
       (λ none. inr (ap (sum (turn_at a v q z)) none))
-      (no_rim_or_none z link m.edges)
+      (inner_or_none z link m.edges)
     where
       nothing : (b : Bool) {w : ℤ} → w ≡ pos 0 → cond b (int_signum w) (pos 0) ≡ pos 0
       nothing true e = ap int_signum e

@@ -2,7 +2,7 @@
 use Rattle.std.proofs.Common.{◌≡◌, ◌≢◌, zero, suc, ◌⊎◌, inl, inr, ⊎_elim, Bool, true, false, ◌&&◌, [], ◌∷◌, refl, sym, ap, ap₂, subst, ◌∙◌, arith}
 use Rattle.std.specs.Prelude.{ℤ, pos, negsuc, not, ◌+ℤ◌, ◌-ℤ◌, ◌*ℤ◌, ◌<ℤ◌, ◌≤ℤ◌}
 use Rattle.std.specs.Ordering.{int_eq}
-use Rattle.std.proofs.lemmas.Bool.{and_parts, false≢true}
+use Rattle.std.proofs.lemmas.Bool.{false≢true}
 use Rattle.std.proofs.lemmas.Int.{ints}
 use Rattle.ma_geom.specs.Coordinates.{Coordinates}
 use Rattle.ma_geom.specs.Lines.{collinear, is_zero, normal}
@@ -10,7 +10,7 @@ use Rattle.ma_geom.specs.Rational.{Rational, offset, side}
 use Rattle.ma_geom.specs.Signs.{same_sign, sign_of}
 use Rattle.ma_geom.specs.Turns.{same_turn}
 use Rattle.ma_geom.specs.Volume.{cross, dot, minus, vol6}
-use Rattle.ma_geom.specs.declared.signs.Sign.TheVariants.{Minus, Zero, Plus}
+use Rattle.ma_geom.specs.declared.signs.Sign.TheVariants.{Zero}
 use Rattle.ma_geom.proofs.Identities.{dot_self}
 use Rattle.ma_geom.proofs.Integers.{positive-*ℤ, square_not_negative}
 use Rattle.ma_geom.proofs.Reified.{place, places, point, point_and_places, cross', dot', minus', offset', vol6'}

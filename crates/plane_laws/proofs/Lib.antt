@@ -1,9 +1,8 @@
 pub mod Items
+pub mod Lines
 pub mod InPlane
 pub mod OverLinks
 pub mod Near
 pub mod Fans
-pub mod Orders
-pub mod Collapsed
-pub mod Segments
-pub mod Triangles
+pub mod Planes
+pub mod Examples

@@ -1,5 +1,5 @@
 -- A point on a triangle has one near it within the tetrahedron over the triangle, off any planes. A triangle of the plane has the point if the tetrahedron over it has the near one.
-use Rattle.std.proofs.Common.{◌≡◌, ◌≢◌, zero, suc, ◌⊎◌, inl, inr, ⊎_elim, ℕ, ◌<◌, Bool, true, false, ◌&&◌, List, [], ◌∷◌, refl, sym, ap, subst, ◌∙◌, arith}
+use Rattle.std.proofs.Common.{◌≡◌, ◌≢◌, zero, suc, ◌⊎◌, inl, inr, ℕ, ◌<◌, Bool, true, false, ◌&&◌, List, [], ◌∷◌, refl, sym, ap, subst, ◌∙◌, arith}
 use Rattle.std.specs.Prelude.{ℤ, pos, negsuc, ◌+ℤ◌, ◌*ℤ◌, ◌<ℤ◌, ◌≤ℤ◌, unsigned_abs}
 use Rattle.std.specs.List.{AllByRecursion}
 use Rattle.std.specs.Ordering.{int_eq}
@@ -8,14 +8,13 @@ use Rattle.ma_geom.specs.Coordinates.{Coordinates}
 use Rattle.ma_geom.specs.Rational.{IsPoint, Rational, side}
 use Rattle.ma_geom.specs.Volume.{vol6}
 use Rattle.ma_geom.proofs.Identities.{vol6_same_ad, vol6_same_bd}
-use Rattle.ma_geom.proofs.Integers.{positive-*ℤ}
 use Rattle.ma_geom.proofs.Reified.{Quadruple, place, point, point_and_places, side'}
 use Rattle.ma_geom.proofs.Ring.{◌⊕◌, ◌⊗◌, ring}
 use Rattle.ma_cover.specs.Inside.{are_alike, is_beside, is_inside}
 use Rattle.ma_cover.specs.OnFaces.{IsOnTriangle}
 use Rattle.ma_cover.proofs.CornerWeights.{not_negative, on_face}
 use Rattle.ma_cover.proofs.OffFaces.{all_four, inside_is_off_faces, on_side, side_of_mean}
-use Rattle.mesh_laws.specs.Points.{IsMovedOffPlane, KeepsSide}
+use Rattle.mesh_laws.specs.Points.{IsMovedOffPlane}
 use Rattle.mesh_laws.proofs.Lists.{all_two}
 use Rattle.mesh_laws.proofs.Moved.{alike_multiple, bound}
 use Rattle.mesh_laws.proofs.MovedOff.{move_off}
@@ -98,16 +97,16 @@ module _ (b x y q : Coordinates) (solid : vol6 b x y q ≢ pos 0) (p : Rational)
       let at = all_four (is_beside x y q b r) (is_beside b y q x r) (is_beside b x q y r) (is_beside b x y q r) inside in
       all (is_beside x y q b s) (is_beside b y q x s) (is_beside b x q y s) (is_beside b x y q s)
       (beside x y q b
-          (weighted on.n on.i (vol6 x y q b) (side x y q p) on.positive on.first
-              (side_of_mean x y q b x y p on ∙ only_first on.i on.j on.k (vol6 x y q b) (vol6 x y q x) (vol6 x y q y) (vol6_same_ad x y q) (vol6_same_bd x y q))) at.0)
+      (weighted on.n on.i (vol6 x y q b) (side x y q p) on.positive on.first
+      (side_of_mean x y q b x y p on ∙ only_first on.i on.j on.k (vol6 x y q b) (vol6 x y q x) (vol6 x y q y) (vol6_same_ad x y q) (vol6_same_bd x y q))) at.0)
       (beside b y q x
-          (weighted on.n on.j (vol6 b y q x) (side b y q p) on.positive on.second
-              (side_of_mean b y q b x y p on ∙ turned_sum (on.i *ℤ vol6 b y q b) (on.j *ℤ vol6 b y q x) (on.k *ℤ vol6 b y q y)
-                  ∙ only_first on.j on.i on.k (vol6 b y q x) (vol6 b y q b) (vol6 b y q y) (vol6_same_ad b y q) (vol6_same_bd b y q))) at.1)
+      (weighted on.n on.j (vol6 b y q x) (side b y q p) on.positive on.second
+      (side_of_mean b y q b x y p on ∙ turned_sum (on.i *ℤ vol6 b y q b) (on.j *ℤ vol6 b y q x) (on.k *ℤ vol6 b y q y)
+      ∙ only_first on.j on.i on.k (vol6 b y q x) (vol6 b y q b) (vol6 b y q y) (vol6_same_ad b y q) (vol6_same_bd b y q))) at.1)
       (beside b x q y
-          (weighted on.n on.k (vol6 b x q y) (side b x q p) on.positive on.third
-              (side_of_mean b x q b x y p on ∙ last_sum (on.i *ℤ vol6 b x q b) (on.j *ℤ vol6 b x q x) (on.k *ℤ vol6 b x q y)
-                  ∙ only_first on.k on.i on.j (vol6 b x q y) (vol6 b x q b) (vol6 b x q x) (vol6_same_ad b x q) (vol6_same_bd b x q))) at.2)
+      (weighted on.n on.k (vol6 b x q y) (side b x q p) on.positive on.third
+      (side_of_mean b x q b x y p on ∙ last_sum (on.i *ℤ vol6 b x q b) (on.j *ℤ vol6 b x q x) (on.k *ℤ vol6 b x q y)
+      ∙ only_first on.k on.i on.j (vol6 b x q y) (vol6 b x q b) (vol6 b x q x) (vol6_same_ad b x q) (vol6_same_bd b x q))) at.2)
       (beside b x y q (inl (on_side b x y p on)) at.3)
     where
       s : Rational

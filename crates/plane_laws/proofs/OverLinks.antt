@@ -22,7 +22,7 @@ use Rattle.mesh_laws.specs.Points.{IsOffPlane}
 use Rattle.mesh_laws.proofs.FivePlaces.{five_places_cancel}
 use Rattle.mesh_laws.proofs.Keyed.{at, total, total-by_key}
 use Rattle.mesh_laws.proofs.Weights.{alike_itself, alike_some}
-use Rattle.plane_laws.specs.Triangles.{Edge, thirds}
+use Rattle.plane_laws.specs.Planes.{Edge, thirds}
 
 abbrev eq : Coordinates → Coordinates → Bool
 eq = eq_by_cmp place_cmp
@@ -146,7 +146,7 @@ module _ (a v q : Coordinates) where
         ∙ ap (λ t. sign e *ℤ t) (five (enclosed p a e.x e.y q) (enclosed p v e.x e.y q) (between e.y) (between e.x) (enclosed p v a e.x e.y) (five_places_cancel p v a e.x e.y q off) (none (is_inside p (v ∷ a ∷ e.x ∷ e.y ∷ [])) good.flat))
         ∙ *ℤ-+ℤ (sign e) (enclosed p v e.x e.y q) (between e.x -ℤ between e.y)
         ∙ ap (λ t. t +ℤ (sign e *ℤ (between e.x -ℤ between e.y)))
-            (signed (vol6 a e.x e.y q) (vol6 v e.x e.y q) (is_over v e) (λ h. ⊎_elim (λ flat. absurd (some_inside v e.x e.y q h flat)) (λ alike. alike) good.turn))
+        (signed (vol6 a e.x e.y q) (vol6 v e.x e.y q) (is_over v e) (λ h. ⊎_elim (λ flat. absurd (some_inside v e.x e.y q h flat)) (λ alike. alike) good.turn))
       where
         five : (s t u w r : ℤ) → (((s -ℤ t) +ℤ u) -ℤ w) +ℤ r ≡ pos 0 → r ≡ pos 0 → s ≡ t +ℤ (w -ℤ u)
         five s t u w r e f = omega (arith, ints)
@@ -227,7 +227,7 @@ module _ (a v q : Coordinates) where
     nothing_between link good even =
         as_terms link
         ∙ total-by_key (pos 0) (λ s t. s +ℤ t) left right regroup (λ (t : Term). t.end) eq same tied (flat_map terms_of link) [] value
-            (λ z. of_end z link good ∙ ⊎_elim (λ e. no_second _ _ e) (λ e. no_first _ _ e) (even z))
+        (λ z. of_end z link good ∙ ⊎_elim (λ e. no_second _ _ e) (λ e. no_first _ _ e) (even z))
       where
         left : (s : ℤ) → pos 0 +ℤ s ≡ s
         left s = omega (arith, ints)

@@ -1,3 +1,2 @@
-pub mod Cells
-pub mod Segments
-pub mod Triangles
+pub mod Lines
+pub mod Planes

@@ -1,4 +1,4 @@
-//! Laws of marked segments on a line and marked triangles in a plane, on which a collapse rests.
+//! Laws of segments on a line and of triangles in a plane, on which the classification after a collapse rests.
 #![tactic(auto)]
 
 pub mod laws;

@@ -1,4 +1,4 @@
--- Triangles in a plane around a vertex a, and in several planes, that goes to another place of them.
+-- Triangles around a vertex a that goes to another place v, in one plane and in several: the edges across from a are its link.
 use Rattle.std.specs.Prelude.{pos, ◌≡◌, ◌≢◌, ◌⊎◌, ◌↔◌, true, false, not, ◌&&◌, ◌||◌, List, [], ◌∷◌, if◌then◌else◌}
 use Rattle.std.specs.List.{AllByRecursion, filter, flat_map}
 use Rattle.std.specs.Ordering.{eq_by_cmp}
@@ -7,25 +7,13 @@ use Rattle.ma_geom.specs.Lines.{collinear, coplanar, is_zero}
 use Rattle.ma_geom.specs.Rational.{IsPoint, Rational, offset}
 use Rattle.ma_geom.specs.Turns.{same_turn}
 use Rattle.ma_geom.specs.Volume.{dot, minus}
-use Rattle.ma_cover.specs.Classification.{AnyByRecursion, IsOnCell}
+use Rattle.ma_cover.specs.Classification.{AnyByRecursion}
 use Rattle.ma_cover.specs.OnFaces.{IsOnTriangle}
-use Rattle.plane_laws.specs.Cells.{AreCells, collapse_cells}
 
--- the edge across from a in a triangle at a
+-- an edge across from a vertex in a triangle that has it. Those of all its triangles are the link of the vertex
 pub record Edge : Type 0 where
   pub x : Coordinates
   pub y : Coordinates
-
-abbrev pub edge_across : Coordinates → List Coordinates → List Edge
-edge_across a (b ∷ c ∷ d ∷ []) =
-    if eq_by_cmp place_cmp b a then record { x = c; y = d } ∷ []
-    else if eq_by_cmp place_cmp c a then record { x = b; y = d } ∷ []
-    else if eq_by_cmp place_cmp d a then record { x = b; y = c } ∷ [] else []
-edge_across a _ = []
-
--- the link of a: these edges of all triangles at a
-abbrev pub link_of : Coordinates → List (List Coordinates) → List Edge
-link_of a triangles = flat_map (edge_across a) triangles
 
 -- the link without the edges that have v
 abbrev pub link_without : Coordinates → List Edge → List Edge
@@ -44,18 +32,18 @@ abbrev pub AreOpposite : (a z : Coordinates) → List Coordinates → Type 0
 AreOpposite a z (x ∷ y ∷ []) = same_turn (a ∷ z ∷ x ∷ []) (z ∷ a ∷ y ∷ []) ≡ true
 AreOpposite a z _ = ⊥
 
--- that the edge from a to z is no rim across the way from a to v: it lies on the line of a and v, or has two triangles, on opposite sides
-abbrev pub IsNoRim : (a v : Coordinates) → List Edge → Coordinates → Type 0
-IsNoRim a v link z = (collinear a z v ≡ true) ⊎ AreOpposite a z (thirds z link)
+-- that the edge from a to z lies on the line of a and v, or has two triangles, on opposite sides
+abbrev pub IsInnerOrOnLine : (a v : Coordinates) → List Edge → Coordinates → Type 0
+IsInnerOrOnLine a v link z = (collinear a z v ≡ true) ⊎ AreOpposite a z (thirds z link)
 
--- that a vertex a with this link, in the plane at right angles to n, may go to v: its triangles and v lie in the plane, none of them on a line, none of their edges at a is such a rim,
+-- that a vertex a with this link may go to v in the plane through a at right angles to n: its triangles and v lie in the plane, none of them on a line; each of their edges at a is such an edge;
 -- and each triangle without v keeps its turn
 pub record CanMoveInPlane (n a v : Coordinates) (link : List Edge) : Type 0 where
   pub plane : is_zero n ≡ false
   pub target : dot n (minus v a) ≡ pos 0
   pub corners : AllByRecursion (λ e. (dot n (minus e.x a) ≡ pos 0) × (dot n (minus e.y a) ≡ pos 0)) link
   pub bent : AllByRecursion (λ e. collinear a e.x e.y ≡ false) link
-  pub edges : AllByRecursion (λ e. IsNoRim a v link e.x × IsNoRim a v link e.y) link
+  pub edges : AllByRecursion (λ e. IsInnerOrOnLine a v link e.x × IsInnerOrOnLine a v link e.y) link
   pub turns : AllByRecursion (λ e. e.x ≢ v → e.y ≢ v → same_turn (a ∷ e.x ∷ e.y ∷ []) (v ∷ e.x ∷ e.y ∷ []) ≡ true) link
 
 -- then each point of the plane is on a triangle from a just if it is on one from v
@@ -71,10 +59,9 @@ in_plane a e link = filter (λ f. coplanar a e.x e.y f.x && coplanar a e.x e.y f
 pub record CanMoveInPlanes (a v : Coordinates) (link : List Edge) : Type 0 where
   pub planes : AllByRecursion (λ e. coplanar a e.x e.y v ≡ true) link
   pub bent : AllByRecursion (λ e. collinear a e.x e.y ≡ false) link
-  pub edges : AllByRecursion (λ e. IsNoRim a v (in_plane a e link) e.x × IsNoRim a v (in_plane a e link) e.y) link
+  pub edges : AllByRecursion (λ e. IsInnerOrOnLine a v (in_plane a e link) e.x × IsInnerOrOnLine a v (in_plane a e link) e.y) link
   pub turns : AllByRecursion (λ e. e.x ≢ v → e.y ≢ v → same_turn (a ∷ e.x ∷ e.y ∷ []) (v ∷ e.x ∷ e.y ∷ []) ≡ true) link
 
--- then each point is on one of the triangles just if it is on one once a is at v
-abbrev pub TrianglesKeepPoints : Type 0
-TrianglesKeepPoints = (a v : Coordinates) (triangles : List (List Coordinates)) → AreCells 3 triangles → CanMoveInPlanes a v (link_of a triangles)
-    → (p : Rational) → IsPoint p → AnyByRecursion (IsOnCell p) triangles ↔ AnyByRecursion (IsOnCell p) (collapse_cells a v triangles)
+-- then each point is on a triangle from a just if it is on one from v
+abbrev pub PlanesKeepPoints : Type 0
+PlanesKeepPoints = (a v : Coordinates) (link : List Edge) → CanMoveInPlanes a v link → (p : Rational) → IsPoint p → IsOnFan a link p ↔ IsOnFan v (link_without v link) p

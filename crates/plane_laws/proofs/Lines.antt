@@ -1,12 +1,10 @@
 -- Segments on a line: a point is on the whole just if it is on one of its parts.
-use Rattle.std.proofs.Common.{◌≡◌, ◌≢◌, ◌⊎◌, inl, inr, ⊎_elim, zero, suc, Bool, true, false, cond, ◌&&◌, ◌||◌, List, [], ◌∷◌, length, refl, sym, ap, ap₂, subst, ◌∙◌, arith}
+use Rattle.std.proofs.Common.{◌≡◌, ◌≢◌, ◌⊎◌, inl, inr, ⊎_elim, zero, suc, true, ◌&&◌, [], ◌∷◌, refl, ap₂, subst, ◌∙◌, arith}
 use Rattle.std.specs.Prelude.{◌↔◌, ℤ, pos, negsuc, ◌+ℤ◌, ◌-ℤ◌, ◌*ℤ◌, neg_ℤ, ◌<ℤ◌, ◌≤ℤ◌, int_lt}
-use Rattle.std.specs.List.Sorted.{IsPermutation}
-use Rattle.std.specs.Ordering.{eq_by_cmp, int_eq}
-use Rattle.std.proofs.lemmas.Bool.{and_parts, false≢true}
+use Rattle.std.specs.Ordering.{int_eq}
+use Rattle.std.proofs.lemmas.Bool.{and_parts}
 use Rattle.std.proofs.lemmas.Int.{ints}
-use Rattle.std.proofs.lemmas.List.Sorted.{IsPermutation-refl, IsPermutation-swap}
-use Rattle.ma_geom.specs.Coordinates.{Coordinates, place_cmp}
+use Rattle.ma_geom.specs.Coordinates.{Coordinates}
 use Rattle.ma_geom.specs.Lines.{between, collinear, normal}
 use Rattle.ma_geom.specs.Rational.{Rational}
 use Rattle.ma_geom.specs.Volume.{dot, minus}
@@ -14,17 +12,26 @@ use Rattle.ma_geom.proofs.Identities.{dot_self, dot_squared}
 use Rattle.ma_geom.proofs.Integers.{not_negative-*ℤ, positive-*ℤ}
 use Rattle.ma_geom.proofs.Reified.{Triple, place, places, cross', dot', minus'}
 use Rattle.ma_geom.proofs.Ring.{Expr, var, con, neg, ◌⊕◌, ◌⊖◌, ◌⊗◌, entry, ring}
-use Rattle.ma_cells.specs.Ascending.{has}
-use Rattle.ma_cells.proofs.Permutations.{apart, same, tied}
-use Rattle.ma_cover.specs.Classification.{AnyByRecursion, IsOnCell, IsOnSegment}
-use Rattle.ma_cover.proofs.Anys.{any_pass, any_weaker}
-use Rattle.plane_laws.specs.Segments.{AreStraight, RunThrough, SegmentHasTwoParts, SegmentsKeepPoints, end_of, ends_of}
-use Rattle.plane_laws.proofs.Collapsed.{HasPart, IsOnKept, IsOnParts, eq_turned, keeps_points}
-use Rattle.plane_laws.proofs.Items.{IsIn, any, each, witness}
-use Rattle.plane_laws.proofs.Orders.{on_segment_turned}
+use Rattle.ma_cover.specs.Classification.{IsOnSegment}
+use Rattle.plane_laws.specs.Lines.{SegmentHasTwoParts}
 
-abbrev eq : Coordinates → Coordinates → Bool
-eq = eq_by_cmp place_cmp
+-- ---- the ends in the other order
+unfoldable pub on_segment_turned : (p : Rational) (a b : Coordinates) → IsOnSegment a b p → IsOnSegment b a p
+on_segment_turned p a b on = record {
+  i = on.j;
+  j = on.i;
+  n = on.n;
+  first = on.second;
+  second = on.first;
+  positive = on.positive;
+  w = turned (on.n *ℤ p.w) on.i on.j on.w;
+  x = turned (on.n *ℤ p.x) (on.i *ℤ a.x) (on.j *ℤ b.x) on.x;
+  y = turned (on.n *ℤ p.y) (on.i *ℤ a.y) (on.j *ℤ b.y) on.y;
+  z = turned (on.n *ℤ p.z) (on.i *ℤ a.z) (on.j *ℤ b.z) on.z;
+}
+  where
+    turned : (s i j : ℤ) → s ≡ i +ℤ j → s ≡ j +ℤ i
+    turned s i j e = omega (arith, ints)
 
 -- what two equations give
 follow : (l r k d e m f g : ℤ) → d ≡ e → f ≡ g → l -ℤ r ≡ (k *ℤ (d -ℤ e)) +ℤ (m *ℤ (f -ℤ g)) → l ≡ r
@@ -210,43 +217,3 @@ two_parts c a v m p = (
 
 pub segment_has_two_parts : SegmentHasTwoParts
 segment_has_two_parts c a v h = two_parts c a v (mean c a v h)
-
--- ---- segments at a
-has_is : (q : Coordinates) (xs : List Coordinates) → has place_cmp q xs ≡ true → IsIn q xs
-has_is q xs h = any_weaker (λ x. eq q x ≡ true) (λ x. q ≡ x) (λ x e. same q x e) xs (any_pass (eq q) xs h)
-
-abbrev end : Coordinates → List Coordinates
-end c = c ∷ []
-
-part : (a v : Coordinates) (s : List Coordinates) → length s ≡ 2 → HasPart a v end (end_of a) s
-part a v [] long = absurd (omega (arith, long))
-part a v (b ∷ []) long = absurd (omega (arith, long))
-part a v (b ∷ c ∷ d ∷ l) long = absurd (omega (arith, long))
-part a v (b ∷ c ∷ []) long = by (eq b a) (eq c a) refl refl
-  where
-    by : (s t : Bool) → eq b a ≡ s → eq c a ≡ t → HasPart a v end (end_of a) (b ∷ c ∷ [])
-    by true t e f = HasPart.at c (rw e refl) (subst (λ q. IsPermutation (q ∷ c ∷ []) (b ∷ c ∷ [])) (same b a e) (IsPermutation-refl (b ∷ c ∷ [])))
-    by false true e f = HasPart.at b (rw (e, f) refl) (subst (λ q. IsPermutation (q ∷ b ∷ []) (b ∷ c ∷ [])) (same c a f) (IsPermutation-swap (c ∷ b ∷ []) (b ∷ c ∷ []) 0 1 (omega arith) (omega arith) refl))
-    by false false e f = HasPart.away (ap₂ (λ s t. s || (t || false)) (eq_turned a b ∙ e) (eq_turned a c ∙ f)) (rw (e, f) refl)
-
-pub segments_keep_points : SegmentsKeepPoints
-segments_keep_points a v segments are straight p = keeps_points a v end (end_of a) 2 (part a v) segments are p (alike straight)
-  where
-    alike : AreStraight a v (ends_of a segments) → IsOnParts a v end (end_of a) p (ends_of a segments) ↔ IsOnKept a v end (end_of a) p (ends_of a segments)
-    alike (inl none) = ((λ h. absurd (subst (IsOnParts a v end (end_of a) p) none h)), (λ h. absurd (subst (IsOnKept a v end (end_of a) p) none h)))
-    alike (inr (c, run)) =
-        let whole = segment_has_two_parts c a v run.straight p in
-        let far = has_is c (ends_of a segments) run.far in
-        let near = has_is v (ends_of a segments) run.near in
-        let away = ap (λ b. b || false) (apart v c (between_apart c a v run.straight)) in (
-          (λ h.
-              let w = witness (λ e. IsOnSegment a e p) (ends_of a segments) h in
-              let on : IsOnSegment c a p ⊎ IsOnSegment a v p =
-              ⊎_elim (λ e. inl (on_segment_turned p a c (subst (λ t. IsOnSegment a t p) e w.2))) (λ e. inr (subst (λ t. IsOnSegment a t p) e w.2)) (each (λ e. (e ≡ c) ⊎ (e ≡ v)) w.0 (ends_of a segments) run.only w.1) in
-              any (λ e. (has place_cmp v (e ∷ []) ≡ false) × IsOnSegment v e p) c (ends_of a segments) far (away, on_segment_turned p c v (whole.1 on))),
-          (λ h.
-              let w = witness (λ e. (has place_cmp v (e ∷ []) ≡ false) × IsOnSegment v e p) (ends_of a segments) h in
-              let is_far = ⊎_elim (λ e. e) (λ e. absurd (false≢true (sym w.2.0 ∙ ap (λ b. b || false) (ap (eq v) e ∙ tied v)))) (each (λ e. (e ≡ c) ⊎ (e ≡ v)) w.0 (ends_of a segments) run.only w.1) in
-              ⊎_elim (λ on. any (λ e. IsOnSegment a e p) c (ends_of a segments) far (on_segment_turned p c a on)) (λ on. any (λ e. IsOnSegment a e p) v (ends_of a segments) near on)
-              (whole.0 (on_segment_turned p v c (subst (λ t. IsOnSegment v t p) is_far w.2.1)))),
-        )

@@ -1,25 +1,18 @@
 -- Triangles in whichever planes: each plane keeps its points.
-use Rattle.std.proofs.Common.{◌≡◌, ◌≢◌, ◌⊎◌, inl, inr, ⊎_elim, Bool, true, false, cond, not, ◌&&◌, ◌||◌, List, [], ◌∷◌, length, refl, sym, ap, ap₂, subst, ◌∙◌, arith}
+use Rattle.std.proofs.Common.{◌≡◌, ◌≢◌, ⊎_elim, Bool, true, false, not, ◌&&◌, ◌||◌, List, [], ◌∷◌, refl, sym, ap₂, subst, ◌∙◌, arith}
 use Rattle.std.specs.Prelude.{◌↔◌, ℤ, pos, ◌+ℤ◌, ◌*ℤ◌, ◌<ℤ◌}
-use Rattle.std.specs.List.{AllByRecursion}
-use Rattle.std.specs.List.Sorted.{IsPermutation}
 use Rattle.std.specs.Ordering.{eq_by_cmp, int_eq}
-use Rattle.std.proofs.lemmas.Bool.{and_parts, false≢true, or_right}
+use Rattle.std.proofs.lemmas.Bool.{and_parts}
 use Rattle.std.proofs.lemmas.Int.{ints}
-use Rattle.std.proofs.lemmas.List.Sorted.{IsPermutation-refl, IsPermutation-swap, IsPermutation-trans}
 use Rattle.ma_geom.specs.Coordinates.{Coordinates, place_cmp}
 use Rattle.ma_geom.specs.Lines.{collinear, coplanar, normal}
-use Rattle.ma_geom.specs.Rational.{IsPoint, Rational, offset, side}
+use Rattle.ma_geom.specs.Rational.{IsPoint, Rational, side}
 use Rattle.ma_geom.specs.Turns.{same_turn}
 use Rattle.ma_geom.specs.Volume.{dot, minus, vol6}
 use Rattle.ma_geom.proofs.Identities.{vol6_same_ad, vol6_same_bd, vol6_same_cd}
-use Rattle.ma_cells.specs.Ascending.{has}
-use Rattle.ma_cells.proofs.Permutations.{same}
-use Rattle.ma_cover.specs.Classification.{AnyByRecursion}
 use Rattle.ma_cover.specs.OnFaces.{IsOnTriangle}
 use Rattle.ma_cover.proofs.OffFaces.{on_side, side_of_mean}
-use Rattle.plane_laws.specs.Triangles.{CanMoveInPlane, CanMoveInPlanes, Edge, IsNoRim, IsOnFan, TrianglesKeepPoints, edge_across, in_plane, link_of, link_without}
-use Rattle.plane_laws.proofs.Collapsed.{HasPart, IsOnKept, IsOnParts, eq_turned, keeps_points, or_parts}
+use Rattle.plane_laws.specs.Planes.{CanMoveInPlane, CanMoveInPlanes, Edge, IsInnerOrOnLine, IsOnFan, PlanesKeepPoints, in_plane, link_without}
 use Rattle.plane_laws.proofs.Fans.{plane_keeps_points}
 use Rattle.plane_laws.proofs.InPlane.{flat_in_plane, product_zero}
 use Rattle.plane_laws.proofs.Items.{IsIn, all_in, any, each, filter-alike, from_filter, in_filter, witness}
@@ -82,8 +75,8 @@ module _ (a v : Coordinates) (link : List Edge) (m : CanMoveInPlanes a v link) w
     target = lies a e.x e.y v (each (λ e. coplanar a e.x e.y v ≡ true) e link m.planes i);
     corners = all_in (λ f. (dot (normal a e.x e.y) (minus f.x a) ≡ pos 0) × (dot (normal a e.x e.y) (minus f.y a) ≡ pos 0)) (near e) (λ f j. let parts = near_parts e f j in (lies a e.x e.y f.x parts.1, lies a e.x e.y f.y parts.2));
     bent = all_in (λ f. collinear a f.x f.y ≡ false) (near e) (λ f j. bent f (near_parts e f j).0);
-    edges = all_in (λ f. IsNoRim a v (near e) f.x × IsNoRim a v (near e) f.y) (near e)
-        (λ f j. subst (λ l. IsNoRim a v l f.x × IsNoRim a v l f.y) (same_near e f i j) (each (λ f. IsNoRim a v (in_plane a f link) f.x × IsNoRim a v (in_plane a f link) f.y) f link m.edges (near_parts e f j).0));
+    edges = all_in (λ f. IsInnerOrOnLine a v (near e) f.x × IsInnerOrOnLine a v (near e) f.y) (near e)
+        (λ f j. subst (λ l. IsInnerOrOnLine a v l f.x × IsInnerOrOnLine a v l f.y) (same_near e f i j) (each (λ f. IsInnerOrOnLine a v (in_plane a f link) f.x × IsInnerOrOnLine a v (in_plane a f link) f.y) f link m.edges (near_parts e f j).0));
     turns = all_in (λ f. f.x ≢ v → f.y ≢ v → same_turn (a ∷ f.x ∷ f.y ∷ []) (v ∷ f.x ∷ f.y ∷ []) ≡ true) (near e)
         (λ f j. each (λ f. f.x ≢ v → f.y ≢ v → same_turn (a ∷ f.x ∷ f.y ∷ []) (v ∷ f.x ∷ f.y ∷ []) ≡ true) f link m.turns (near_parts e f j).0);
   }
@@ -112,58 +105,20 @@ module _ (a v : Coordinates) (link : List Edge) (m : CanMoveInPlanes a v link) w
     abbrev lacks_v : Edge → Bool
     lacks_v e = not (eq v e.x || eq v e.y)
 
-    abbrev IsKept : Edge → Type 0
-    IsKept e = (has place_cmp v (e.x ∷ e.y ∷ []) ≡ false) × IsOnTriangle v e.x e.y p
-
-    alike : IsOnFan a link p ↔ AnyByRecursion IsKept link
+    alike : IsOnFan a link p ↔ IsOnFan v (link_without v link) p
     alike = (
       (λ on.
           let w = witness (λ e. IsOnTriangle a e.x e.y p) link on in
           let u = witness (λ e. IsOnTriangle v e.x e.y p) (link_without v (near w.0)) ((fan w.0 w.1 (on_side a w.0.x w.0.y p w.2)).0 (any (λ e. IsOnTriangle a e.x e.y p) w.0 (near w.0) (itself w.0 w.1) w.2)) in
           let from = from_filter lacks_v u.0 (near w.0) u.1 in
-          any IsKept u.0 link (near_parts w.0 u.0 from.0).0 (to_has (eq v u.0.x) (eq v u.0.y) from.1, u.2)),
+          any (λ e. IsOnTriangle v e.x e.y p) u.0 (link_without v link) (in_filter lacks_v u.0 link (near_parts w.0 u.0 from.0).0 from.1) u.2),
       (λ on.
-          let w = witness IsKept link on in
-          let here = in_filter lacks_v w.0 (near w.0) (itself w.0 w.1) (from_has (eq v w.0.x) (eq v w.0.y) w.2.0) in
-          let u = witness (λ e. IsOnTriangle a e.x e.y p) (near w.0) ((fan w.0 w.1 (still_flat w.0 w.1 w.2.1)).1 (any (λ e. IsOnTriangle v e.x e.y p) w.0 (link_without v (near w.0)) here w.2.1)) in
+          let w = witness (λ e. IsOnTriangle v e.x e.y p) (link_without v link) on in
+          let from = from_filter lacks_v w.0 link w.1 in
+          let u = witness (λ e. IsOnTriangle a e.x e.y p) (near w.0)
+          ((fan w.0 from.0 (still_flat w.0 from.0 w.2)).1 (any (λ e. IsOnTriangle v e.x e.y p) w.0 (link_without v (near w.0)) (in_filter lacks_v w.0 (near w.0) (itself w.0 from.0) from.1) w.2)) in
           any (λ e. IsOnTriangle a e.x e.y p) u.0 link (near_parts w.0 u.0 u.1).0 u.2),
     )
-      where
-        to_has : (s t : Bool) → not (s || t) ≡ true → (s || (t || false)) ≡ false
-        to_has true t h = absurd (false≢true h)
-        to_has false true h = absurd (false≢true h)
-        to_has false false h = refl
 
-        from_has : (s t : Bool) → (s || (t || false)) ≡ false → not (s || t) ≡ true
-        from_has true t h = absurd (false≢true (sym h))
-        from_has false true h = absurd (false≢true (sym h))
-        from_has false false h = refl
-
--- ---- triangles at a
-abbrev ends : Edge → List Coordinates
-ends e = e.x ∷ e.y ∷ []
-
-part : (a v : Coordinates) (s : List Coordinates) → length s ≡ 3 → HasPart a v ends (edge_across a) s
-part a v [] long = absurd (omega (arith, long))
-part a v (b ∷ []) long = absurd (omega (arith, long))
-part a v (b ∷ c ∷ []) long = absurd (omega (arith, long))
-part a v (b ∷ c ∷ d ∷ e ∷ l) long = absurd (omega (arith, long))
-part a v (b ∷ c ∷ d ∷ []) long = by (eq b a) (eq c a) (eq d a) refl refl refl
-  where
-    second : IsPermutation (c ∷ b ∷ d ∷ []) (b ∷ c ∷ d ∷ [])
-    second = IsPermutation-swap (c ∷ b ∷ d ∷ []) (b ∷ c ∷ d ∷ []) 0 1 (omega arith) (omega arith) refl
-
-    third : IsPermutation (d ∷ b ∷ c ∷ []) (b ∷ c ∷ d ∷ [])
-    third =
-        IsPermutation-trans (d ∷ b ∷ c ∷ []) (b ∷ d ∷ c ∷ []) (b ∷ c ∷ d ∷ [])
-        (IsPermutation-swap (d ∷ b ∷ c ∷ []) (b ∷ d ∷ c ∷ []) 0 1 (omega arith) (omega arith) refl)
-        (IsPermutation-swap (b ∷ d ∷ c ∷ []) (b ∷ c ∷ d ∷ []) 1 2 (omega arith) (omega arith) refl)
-
-    by : (s t u : Bool) → eq b a ≡ s → eq c a ≡ t → eq d a ≡ u → HasPart a v ends (edge_across a) (b ∷ c ∷ d ∷ [])
-    by true t u e f g = HasPart.at (record { x = c; y = d }) (rw e refl) (subst (λ q. IsPermutation (q ∷ c ∷ d ∷ []) (b ∷ c ∷ d ∷ [])) (same b a e) (IsPermutation-refl (b ∷ c ∷ d ∷ [])))
-    by false true u e f g = HasPart.at (record { x = b; y = d }) (rw (e, f) refl) (subst (λ q. IsPermutation (q ∷ b ∷ d ∷ []) (b ∷ c ∷ d ∷ [])) (same c a f) second)
-    by false false true e f g = HasPart.at (record { x = b; y = c }) (rw (e, f, g) refl) (subst (λ q. IsPermutation (q ∷ b ∷ c ∷ []) (b ∷ c ∷ d ∷ [])) (same d a g) third)
-    by false false false e f g = HasPart.away (ap₂ (λ s t. s || t) (eq_turned a b ∙ e) (ap₂ (λ s t. s || (t || false)) (eq_turned a c ∙ f) (eq_turned a d ∙ g))) (rw (e, f, g) refl)
-
-pub triangles_keep_points : TrianglesKeepPoints
-triangles_keep_points a v triangles are m p is_point = keeps_points a v ends (edge_across a) 3 (part a v) triangles are p (alike a v (link_of a triangles) m p is_point)
+pub planes_keep_points : PlanesKeepPoints
+planes_keep_points a v link m p is_point = alike a v link m p is_point
