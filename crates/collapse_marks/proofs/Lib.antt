@@ -1,0 +1,4 @@
+pub mod Orders
+pub mod Collapsed
+pub mod Segments
+pub mod Triangles
