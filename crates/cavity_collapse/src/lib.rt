@@ -1,0 +1,6 @@
+//! Which edges may be collapsed, and what a collapse leaves.
+#![tactic(auto)]
+
+mod curves;
+mod places;
+mod surfaces;
