@@ -1,4 +1,4 @@
 pub mod Orders
-pub mod Collapsed
+pub mod Moved
 pub mod Segments
 pub mod Triangles

@@ -15,7 +15,7 @@ use Rattle.ma_cells.proofs.Corners.{ascending_is, sorted_corners}
 use Rattle.ma_cells.proofs.Permutations.{apart, ascending_of-permutes, has-permutation, same, tied}
 use Rattle.ma_cover.specs.Classification.{AnyByRecursion, IsOnCell}
 use Rattle.ma_cover.proofs.Anys.{any-flat_map, any_alike, any_one, then_either}
-use Rattle.collapse_marks.specs.Cells.{AreCells, collapse_cell, collapse_cells, moved}
+use Rattle.collapse_marks.specs.Cells.{AreCells, moved_cell, moved_cells, moved}
 use Rattle.plane_laws.proofs.Items.{any_or}
 use Rattle.collapse_marks.proofs.Orders.{on_reordered}
 
@@ -57,8 +57,8 @@ module _ (a v : Coordinates) where
       ap₂ (λ b t. cond b v x ∷ t) (eq_turned x a ∙ parts.0) (moved_away s parts.1)
 
   -- a cell without a stays
-  pub collapse_away : (s : List Coordinates) → are_ascending place_cmp s ≡ true → has place_cmp a s ≡ false → collapse_cell a v s ≡ s ∷ []
-  collapse_away s rises away = rw (moved_away s away, ascending-distinct s rises, ascending_is s rises) refl
+  pub moved_cell_away : (s : List Coordinates) → are_ascending place_cmp s ≡ true → has place_cmp a s ≡ false → moved_cell a v s ≡ s ∷ []
+  moved_cell_away s rises away = rw (moved_away s away, ascending-distinct s rises, ascending_is s rises) refl
 
   -- ---- a cell with a and others
   module _ (s others : List Coordinates) (rises : are_ascending place_cmp s ≡ true) (order : IsPermutation (a ∷ others) s) where
@@ -75,7 +75,7 @@ module _ (a v : Coordinates) where
         last true = refl
         last false = refl
 
-    pub on_collapsed : (p : Rational) → AnyByRecursion (IsOnCell p) (collapse_cell a v s) ↔ ((has place_cmp v others ≡ false) × IsOnCell p (v ∷ others))
+    pub on_collapsed : (p : Rational) → AnyByRecursion (IsOnCell p) (moved_cell a v s) ↔ ((has place_cmp v others ≡ false) × IsOnCell p (v ∷ others))
     on_collapsed p = by (has place_cmp v others) refl
       where
         to_sorted : has place_cmp v others ≡ false → IsPermutation (v ∷ others) (ascending_of place_cmp (moved a v s))
@@ -121,9 +121,9 @@ module _ (a v : Coordinates) where
           (λ k. on_reordered p (a ∷ others r) s order ((any_one (λ r. IsOnCell p (a ∷ others r)) r).1 (subst (IsOnParts p) is k))) h),
     )
 
-    after : (p : Rational) (s : List Coordinates) → are_ascending place_cmp s ≡ true → HasPart s → AnyByRecursion (IsOnCell p) (collapse_cell a v s) ↔ (IsAway p s ⊎ IsOnKept p (parts s))
+    after : (p : Rational) (s : List Coordinates) → are_ascending place_cmp s ≡ true → HasPart s → AnyByRecursion (IsOnCell p) (moved_cell a v s) ↔ (IsAway p s ⊎ IsOnKept p (parts s))
     after p s rises (away e none) =
-        let stays = collapse_away s rises e in (
+        let stays = moved_cell_away s rises e in (
           (λ h. inl (e, (any_one (IsOnCell p) s).1 (subst (AnyByRecursion (IsOnCell p)) stays h))),
           (λ h. ⊎_elim (λ k. subst (AnyByRecursion (IsOnCell p)) (sym stays) (inl k.1)) (λ k. absurd (subst (IsOnKept p) none k)) h),
         )
@@ -137,10 +137,10 @@ module _ (a v : Coordinates) where
     IsCell n s = (length s ≡ n) × (are_ascending place_cmp s ≡ true)
 
     pub keeps_points : (n : ℕ) → ((s : List Coordinates) → length s ≡ n → HasPart s) → (cells : List (List Coordinates)) → AreCells n cells → (p : Rational)
-        → (IsOnParts p (flat_map parts cells) ↔ IsOnKept p (flat_map parts cells)) → AnyByRecursion (IsOnCell p) cells ↔ AnyByRecursion (IsOnCell p) (collapse_cells a v cells)
+        → (IsOnParts p (flat_map parts cells) ↔ IsOnKept p (flat_map parts cells)) → AnyByRecursion (IsOnCell p) cells ↔ AnyByRecursion (IsOnCell p) (moved_cells a v cells)
     keeps_points n part cells are p alike =
         let first = then_either (any_alike (IsCell n) (IsOnCell p) (λ s. IsAway p s ⊎ IsOnParts p (parts s)) (λ s is. before p s (part s is.0)) cells are) (any_or (IsAway p) (λ s. IsOnParts p (parts s)) cells) in
-        let second = then_either (any-flat_map (IsOnCell p) (collapse_cell a v) cells)
-        (then_either (any_alike (IsCell n) (λ s. AnyByRecursion (IsOnCell p) (collapse_cell a v s)) (λ s. IsAway p s ⊎ IsOnKept p (parts s)) (λ s is. after p s is.1 (part s is.0)) cells are) (any_or (IsAway p) (λ s. IsOnKept p (parts s)) cells)) in
+        let second = then_either (any-flat_map (IsOnCell p) (moved_cell a v) cells)
+        (then_either (any_alike (IsCell n) (λ s. AnyByRecursion (IsOnCell p) (moved_cell a v s)) (λ s. IsAway p s ⊎ IsOnKept p (parts s)) (λ s is. after p s is.1 (part s is.0)) cells are) (any_or (IsAway p) (λ s. IsOnKept p (parts s)) cells)) in
         let links = then_either (turned (any-flat_map (λ r. IsOnCell p (a ∷ others r)) parts cells)) (then_either alike (any-flat_map (IsKept p) parts cells)) in
         then_either first (then_either ((λ h. ⊎_elim inl (λ k. inr (links.0 k)) h), (λ h. ⊎_elim inl (λ k. inr (links.1 k)) h)) (turned second))
