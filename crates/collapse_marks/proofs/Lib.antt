@@ -2,3 +2,4 @@ pub mod Orders
 pub mod Moved
 pub mod Segments
 pub mod Triangles
+pub mod Classified

@@ -1,3 +1,4 @@
 pub mod Cells
 pub mod Segments
 pub mod Triangles
+pub mod Marks
