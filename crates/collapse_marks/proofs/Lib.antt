@@ -3,3 +3,4 @@ pub mod Moved
 pub mod Segments
 pub mod Triangles
 pub mod Classified
+pub mod Corners

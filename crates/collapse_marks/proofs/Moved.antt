@@ -36,7 +36,7 @@ pub or_parts : (s t : Bool) → (s || t) ≡ false → (s ≡ false) × (t ≡ f
 or_parts true t h = absurd (false≢true (sym h))
 or_parts false t h = (refl, h)
 
-not_and : (s t : Bool) → (not s && t) ≡ true → (s ≡ false) × (t ≡ true)
+pub not_and : (s t : Bool) → (not s && t) ≡ true → (s ≡ false) × (t ≡ true)
 not_and true t h = absurd (false≢true h)
 not_and false t h = (refl, h)
 
