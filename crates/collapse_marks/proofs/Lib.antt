@@ -4,3 +4,5 @@ pub mod Segments
 pub mod Triangles
 pub mod Classified
 pub mod Corners
+pub mod Opposite
+pub mod Wings
