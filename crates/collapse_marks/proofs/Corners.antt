@@ -27,7 +27,7 @@ abbrev edge : Coordinates → Coordinates → Edge
 edge x y = record { x = x; y = y }
 
 -- ---- places on a line, in another order
-exchanged_sign : (s t : ℤ) → s ≡ neg_ℤ t → int_eq s (pos 0) ≡ int_eq t (pos 0)
+pub exchanged_sign : (s t : ℤ) → s ≡ neg_ℤ t → int_eq s (pos 0) ≡ int_eq t (pos 0)
 exchanged_sign s t e = grind (arith, ints)
 
 abbrev normal' : Triple → Triple → Triple → Triple
@@ -69,7 +69,7 @@ pub record IsAway (a : Coordinates) (t : List Coordinates) : Type 0 where
   pub across : corners_across a t ≡ None
   pub thirds : (z : Coordinates) → corner_beyond a z t ≡ None
 
-distinct_three : (p q r : Coordinates) → are_distinct place_cmp (p ∷ q ∷ r ∷ []) ≡ true → (eq p q ≡ false) × (eq p r ≡ false) × (eq q r ≡ false)
+pub distinct_three : (p q r : Coordinates) → are_distinct place_cmp (p ∷ q ∷ r ∷ []) ≡ true → (eq p q ≡ false) × (eq p r ≡ false) × (eq q r ≡ false)
 distinct_three p q r h =
     let first = not_and (eq p q || (eq p r || false)) (not (eq q r || false) && (not false && true)) h in
     let two = or_parts (eq p q) (eq p r || false) first.0 in

@@ -6,3 +6,4 @@ pub mod Classified
 pub mod Corners
 pub mod Opposite
 pub mod Wings
+pub mod Tests

@@ -45,7 +45,7 @@ pub ascending-distinct : (s : List Coordinates) → are_ascending place_cmp s �
 ascending-distinct s rises =
     sym (length-ascending_of place_cmp_total s).1 ∙ ap (λ t. eqb (length t) (length s)) (ascending_is s rises) ∙ eq-eqb (length s) (length s) refl
 
-distinct-permutation : (s t : List Coordinates) → IsPermutation s t → are_distinct place_cmp s ≡ are_distinct place_cmp t
+pub distinct-permutation : (s t : List Coordinates) → IsPermutation s t → are_distinct place_cmp s ≡ are_distinct place_cmp t
 distinct-permutation s t order =
     sym (length-ascending_of place_cmp_total s).1 ∙ ap₂ eqb (ap length (sorted_corners s t order)) (sym (length_permutation s t order)) ∙ (length-ascending_of place_cmp_total t).1
 

@@ -64,7 +64,7 @@ module _ (a z : Coordinates) (differ : a ≢ z) (phys elem : ℤ) (m : CellMark)
   abbrev both_pass : Edge → Bool
   both_pass f = K f.x && K f.y
 
-  abbrev thirds_of : CellMark → List Coordinates
+  abbrev pub thirds_of : CellMark → List Coordinates
   thirds_of n = option_to_list (tagged_third a z m n)
 
   -- of one edge
