@@ -3,4 +3,5 @@
 
 mod curves;
 mod places;
+mod stars;
 mod surfaces;
