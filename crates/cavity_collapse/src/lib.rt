@@ -2,6 +2,7 @@
 #![tactic(auto)]
 
 mod curves;
+mod filling;
 mod places;
 mod stars;
 mod surfaces;
