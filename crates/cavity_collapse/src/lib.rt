@@ -3,6 +3,9 @@
 
 mod curves;
 mod filling;
+mod judging;
 mod places;
 mod stars;
 mod surfaces;
+
+pub use judging::{judge, judge_with, legal_with};

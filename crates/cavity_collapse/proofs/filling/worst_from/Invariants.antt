@@ -1,7 +1,7 @@
 use Rattle.std.proofs.Common.{◌≡◌, ◌∷◌, drop, map}
 use Rattle.ma_geom.specs.Quality.{quality}
 use Rattle.ma_cells.specs.Worst.{least}
-use Rattle.cavity_collapse.proofs.filling.worst_with.Given as goal
+use Rattle.cavity_collapse.proofs.filling.worst_from.Given as goal
 
 -- the least so far, and those of the rest
 abbrev pub invariant-loop-tet : goal.invariant-loop-tet
