@@ -4,12 +4,12 @@ use Rattle.std.specs.declared.cmp.Ordering.{Ordering}
 use Rattle.std.specs.FinMap.{IsAntisymmetric}
 use Rattle.std.specs.List.{flat_map}
 use Rattle.std.specs.Option.{option_to_list}
-use Rattle.std.specs.Ordering.{eq_by_cmp, is_eq, is_lt}
+use Rattle.std.specs.Ordering.{is_eq, is_lt}
 use Rattle.ma_geom.specs.Coordinates.{Coordinates}
 use Rattle.ma_geom.specs.Quality.{quality}
 use Rattle.ma_cells.specs.Ascending.{ascending_of, put}
 use Rattle.ma_cells.specs.Stars.{besides, cone}
-use Rattle.ma_cells.specs.Tetrahedron.{Tetrahedron, tet_cmp, tetrahedron_of}
+use Rattle.ma_cells.specs.Tetrahedron.{Tetrahedron, tetrahedron_of}
 use Rattle.ma_cells.specs.Worst.{least, worst}
 use Rattle.ma_cells.proofs.CellOrders.{tet_cmp-IsAntisymmetric}
 use Rattle.ma_cells.proofs.Members.{tied_is}

@@ -84,7 +84,9 @@ pub(crate) fn faces_are_seen(star: &[Tet], a: Place, v: Place) -> bool
 fn stays_short(field: &SizeField, corners: [Place; 4], a: Place, v: Place) -> bool
     ensures { result ≡ list_all (λ x. is_same x a || not (is_long field.now v x)) corners }
 {
-    corners.iter().all(|x| is_same(*x, a) || !field.is_long(v, *x))
+    corners
+        .iter()
+        .all(|x| is_same(*x, a) || !field.is_long(v, *x))
 }
 
 fn edges_stay_short_of(field: &SizeField, tet: &Tet, a: Place, v: Place) -> bool
