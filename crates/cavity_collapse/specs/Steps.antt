@@ -1,12 +1,15 @@
 -- What the code asks of one mark after the other. No public contract names these.
-use Rattle.std.specs.Prelude.{Bool, true, false, not, ◌&&◌, ◌||◌, List, [], ◌∷◌, Option, Some, None}
+use Rattle.std.specs.Prelude.{ℕ, min, Bool, true, false, not, ◌&&◌, ◌||◌, List, [], ◌∷◌, Option, Some, None}
 use Rattle.std.specs.List.{list_all, list_any}
 use Rattle.std.specs.Ordering.{eq_by_cmp}
 use Rattle.ma_geom.specs.Coordinates.{Coordinates, place_cmp}
 use Rattle.ma_geom.specs.Lines.{between, collinear, coplanar}
+use Rattle.ma_geom.specs.Quality.{quality}
 use Rattle.ma_geom.specs.Turns.{same_turn}
 use Rattle.ma_cells.specs.Ascending.{has}
 use Rattle.ma_cells.specs.Cells.{CellMark}
+use Rattle.ma_cells.specs.Tetrahedron.{Tetrahedron}
+use Rattle.ma_cells.specs.Worst.{least}
 use Rattle.cavity_collapse.specs.Collapsing.{is_same}
 use Rattle.cavity_collapse.specs.Curves.{tagged_end}
 use Rattle.cavity_collapse.specs.Surfaces.{across, tagged_third}
@@ -53,3 +56,18 @@ surface_goes_on marks a v m = each_passes (λ rim. edge_goes_on marks a v m rim.
 
 abbrev pub turn_is_kept : (a v : Coordinates) → CellMark → Bool
 turn_is_kept a v m = each_passes (λ rim. has place_cmp v (rim.0 ∷ rim.1 ∷ []) || same_turn (a ∷ rim.0 ∷ rim.1 ∷ []) (v ∷ rim.0 ∷ rim.1 ∷ [])) (across a m.cell)
+
+-- the least of what there may be and one more
+abbrev pub lesser : Option ℕ → ℕ → ℕ
+lesser (Some n) m = min n m
+lesser None m = m
+
+-- the least quality so far, with that of one more, if there is one
+abbrev pub worst_with : Option ℕ → Option Tetrahedron → Option ℕ
+worst_with worst (Some tet) = Some (lesser worst (quality tet.corners))
+worst_with worst None = worst
+
+-- the least of what there may be and others
+abbrev pub least_with : Option ℕ → List ℕ → ℕ
+least_with (Some n) ns = least (n ∷ ns)
+least_with None ns = least ns

@@ -2,5 +2,12 @@
 #![tactic(auto)]
 
 mod curves;
+mod filling;
+mod judging;
 mod places;
+mod results;
+mod stars;
 mod surfaces;
+
+pub use judging::{judge, judge_with, legal_with};
+pub use results::result;
