@@ -20,8 +20,8 @@ use Rattle.ma_cells.proofs.Permutations.{apart}
 use Rattle.ma_cover.specs.Classification.{AnyByRecursion, IsOn, IsOnCell, KeepsClassification, dimension, marked_cells}
 use Rattle.ma_cover.proofs.Anys.{any-ascending_of, any-flat_map, then_either}
 use Rattle.plane_laws.specs.Planes.{CanMoveInPlanes}
-use Rattle.cavity_collapse.specs.Collapsing.{moved_mark, moved_marks}
-use Rattle.collapse_marks.specs.Cells.{AreCells, moved, moved_cell, moved_cells}
+use Rattle.cavity_collapse.specs.Collapsing.{moved_corners, moved_mark, moved_marks}
+use Rattle.collapse_marks.specs.Cells.{AreCells, moved_cell, moved_cells}
 use Rattle.collapse_marks.specs.Segments.{AreStraight, ends_of}
 use Rattle.collapse_marks.specs.Triangles.{link_of}
 use Rattle.collapse_marks.proofs.Moved.{moved_cell_away}
@@ -67,29 +67,29 @@ module _ (d : ℕ) (phys elem : ℤ) where
 
     -- with v in the place of a
     module _ (a v : Coordinates) where
-      same_length : (s : List Coordinates) → length (moved a v s) ≡ length s
+      same_length : (s : List Coordinates) → length (moved_corners a v s) ≡ length s
       same_length [] = refl
       same_length (x ∷ s) = ap suc (same_length s)
 
-      full : (s : List Coordinates) (n : ℕ) → length s ≡ n → are_distinct place_cmp (moved a v s) ≡ true → length (ascending_of place_cmp (moved a v s)) ≡ n
-      full s n long distinct = eqb-true (length (ascending_of place_cmp (moved a v s))) (length (moved a v s)) ((length-ascending_of place_cmp_total (moved a v s)).1 ∙ distinct) ∙ same_length s ∙ long
+      full : (s : List Coordinates) (n : ℕ) → length s ≡ n → are_distinct place_cmp (moved_corners a v s) ≡ true → length (ascending_of place_cmp (moved_corners a v s)) ≡ n
+      full s n long distinct = eqb-true (length (ascending_of place_cmp (moved_corners a v s))) (length (moved_corners a v s)) ((length-ascending_of place_cmp_total (moved_corners a v s)).1 ∙ distinct) ∙ same_length s ∙ long
 
       by_size : (n e : ℕ) (s : List Coordinates) → length s ≡ n → ((t : List Coordinates) → length t ≡ n → marks_on m t ≡ cond ((e == d) && has_tag m) (t ∷ []) [] ++ [])
-          → flat_map one (option_to_list (mark_on (moved a v s) m.phys m.elem)) ≡ flat_map (moved_cell a v) (cond ((e == d) && has_tag m) (s ∷ []) [])
-      by_size n e s long each = by (are_distinct place_cmp (moved a v s)) refl
+          → flat_map one (option_to_list (mark_on (moved_corners a v s) m.phys m.elem)) ≡ flat_map (moved_cell a v) (cond ((e == d) && has_tag m) (s ∷ []) [])
+      by_size n e s long each = by (are_distinct place_cmp (moved_corners a v s)) refl
         where
           pick : (b : Bool) (ts : List (List Coordinates)) → moved_cell a v s ≡ ts → cond b ts [] ++ [] ≡ flat_map (moved_cell a v) (cond b (s ∷ []) [])
           pick true ts is = ap (λ us. us ++ []) (sym is)
           pick false ts is = refl
 
-          by : (b : Bool) → are_distinct place_cmp (moved a v s) ≡ b → flat_map one (option_to_list (mark_on (moved a v s) m.phys m.elem)) ≡ flat_map (moved_cell a v) (cond ((e == d) && has_tag m) (s ∷ []) [])
+          by : (b : Bool) → are_distinct place_cmp (moved_corners a v s) ≡ b → flat_map one (option_to_list (mark_on (moved_corners a v s) m.phys m.elem)) ≡ flat_map (moved_cell a v) (cond ((e == d) && has_tag m) (s ∷ []) [])
           by true f =
-              ap (λ b. flat_map one (option_to_list (option_map (λ cell. record { cell = cell; phys = m.phys; elem = m.elem }) (cond b (cell_on (ascending_of place_cmp (moved a v s))) None)))) f
-              ∙ each (ascending_of place_cmp (moved a v s)) (full s n long f)
-              ∙ pick ((e == d) && has_tag m) (ascending_of place_cmp (moved a v s) ∷ []) (ap (λ b. cond b (ascending_of place_cmp (moved a v s) ∷ []) []) f)
+              ap (λ b. flat_map one (option_to_list (option_map (λ cell. record { cell = cell; phys = m.phys; elem = m.elem }) (cond b (cell_on (ascending_of place_cmp (moved_corners a v s))) None)))) f
+              ∙ each (ascending_of place_cmp (moved_corners a v s)) (full s n long f)
+              ∙ pick ((e == d) && has_tag m) (ascending_of place_cmp (moved_corners a v s) ∷ []) (ap (λ b. cond b (ascending_of place_cmp (moved_corners a v s) ∷ []) []) f)
           by false f =
-              ap (λ b. flat_map one (option_to_list (option_map (λ cell. record { cell = cell; phys = m.phys; elem = m.elem }) (cond b (cell_on (ascending_of place_cmp (moved a v s))) None)))) f
-              ∙ nothing ((e == d) && has_tag m) (ap (λ b. cond b (ascending_of place_cmp (moved a v s) ∷ []) []) f)
+              ap (λ b. flat_map one (option_to_list (option_map (λ cell. record { cell = cell; phys = m.phys; elem = m.elem }) (cond b (cell_on (ascending_of place_cmp (moved_corners a v s))) None)))) f
+              ∙ nothing ((e == d) && has_tag m) (ap (λ b. cond b (ascending_of place_cmp (moved_corners a v s) ∷ []) []) f)
             where
               nothing : (b : Bool) → moved_cell a v s ≡ [] → [] ≡ flat_map (moved_cell a v) (cond b (s ∷ []) [])
               nothing true is = ap (λ us. us ++ []) (sym is)
@@ -101,7 +101,7 @@ module _ (d : ℕ) (phys elem : ℤ) where
       is : (n k : ℕ) → (n == k) ≡ true → n ≡ k
       is n k h = grind arith
 
-      by : (c : Cell) → is_cell c ≡ true → flat_map one (option_to_list (mark_on (moved a v (corners_of c)) m.phys m.elem)) ≡ flat_map (moved_cell a v) (cond ((dimension c == d) && has_tag m) (corners_of c ∷ []) [])
+      by : (c : Cell) → is_cell c ≡ true → flat_map one (option_to_list (mark_on (moved_corners a v (corners_of c)) m.phys m.elem)) ≡ flat_map (moved_cell a v) (cond ((dimension c == d) && has_tag m) (corners_of c ∷ []) [])
       by (Point p) h = by_size m a v 1 0 (p ∷ []) refl (of_point m)
       by (Seg s) h = by_size m a v 2 1 s (is (length s) 2 (and_parts (length s == 2) (are_ascending place_cmp s) h).0) (of_segment m)
       by (Tri t) h = by_size m a v 3 2 t (is (length t) 3 (and_parts (length t == 3) (are_ascending place_cmp t) h).0) (of_triangle m)

@@ -13,7 +13,6 @@ use Rattle.ma_geom.proofs.Identities.{vol6_exchange_ab, vol6_turn_abc}
 use Rattle.ma_geom.proofs.Reified.{Triple, cross', minus', place, places}
 use Rattle.ma_geom.proofs.Ring.{neg, ring}
 use Rattle.ma_cells.specs.Ascending.{are_distinct, has}
-use Rattle.ma_cells.specs.Stars.{besides}
 use Rattle.ma_cells.proofs.Permutations.{apart, same, tied}
 use Rattle.cavity_collapse.specs.Surfaces.{corner_beyond, corners_across, lies_in_plane}
 use Rattle.plane_laws.specs.Planes.{Edge}
@@ -60,7 +59,6 @@ beyond z e = cond (eq z e.x) (Some e.y) (cond (eq z e.y) (Some e.x) None)
 pub record IsAt (a : Coordinates) (e : Edge) (t : List Coordinates) : Type 0 where
   pub across : corners_across a t ≡ Some (e.x, e.y)
   pub order : IsPermutation (a ∷ e.x ∷ e.y ∷ []) t
-  pub others : besides (a ∷ []) t ≡ e.x ∷ e.y ∷ []
   pub plane : (v : Coordinates) → lies_in_plane v t ≡ coplanar a e.x e.y v
   pub bent : is_bent t ≡ not (collinear a e.x e.y)
   pub thirds : (z : Coordinates) → a ≢ z → corner_beyond a z t ≡ beyond z e
@@ -85,7 +83,6 @@ at_first a q r h =
     record {
       across = rw (tied a) refl;
       order = IsPermutation-refl (a ∷ q ∷ r ∷ []);
-      others = rw (tied a, eq_turned q a, aq, eq_turned r a, ar) refl;
       plane = λ v. refl;
       bent = refl;
       thirds = λ z differ. rw (tied a, apart z a (λ e. differ (sym e)), aq, ar) (last_option (eq z q) r (cond ((eq z r || false) && true) (Some q) None) ∙ ap (cond (eq z q) (Some r)) (last_option (eq z r) q None));
@@ -97,7 +94,6 @@ at_second a p r h =
     record {
       across = rw (pa, tied a) refl;
       order = IsPermutation-swap (a ∷ p ∷ r ∷ []) (p ∷ a ∷ r ∷ []) 0 1 (omega arith) (omega arith) refl;
-      others = rw (pa, tied a, eq_turned r a, ar) refl;
       plane = λ v. exchanged_sign _ _ (vol6_exchange_ab a p r v);
       bent = ap not (collinear_exchanged a p r);
       thirds = λ z differ. rw (eq_turned a p, pa, tied a, apart z a (λ e. differ (sym e)), ar) (last_option (eq z p) r (cond ((eq z r || false) && true) (Some p) None) ∙ ap (cond (eq z p) (Some r)) (last_option (eq z r) p None));
@@ -112,7 +108,6 @@ at_third a p q h =
           IsPermutation-trans (a ∷ p ∷ q ∷ []) (p ∷ a ∷ q ∷ []) (p ∷ q ∷ a ∷ [])
           (IsPermutation-swap (a ∷ p ∷ q ∷ []) (p ∷ a ∷ q ∷ []) 0 1 (omega arith) (omega arith) refl)
           (IsPermutation-swap (p ∷ a ∷ q ∷ []) (p ∷ q ∷ a ∷ []) 1 2 (omega arith) (omega arith) refl);
-      others = rw (pa, qa, tied a) refl;
       plane = λ v. ap (λ s. int_eq s (pos 0)) (vol6_turn_abc a p q v);
       bent = ap not (collinear_turned a p q);
       thirds = λ z differ. rw (eq_turned a p, pa, eq_turned a q, qa, tied a, apart z a (λ e. differ (sym e))) (last_option (eq z p) q (cond ((eq z q || false) && true) (Some p) None) ∙ ap (cond (eq z p) (Some q)) (last_option (eq z q) p None));

@@ -15,7 +15,8 @@ use Rattle.ma_cells.proofs.Corners.{ascending_is, sorted_corners}
 use Rattle.ma_cells.proofs.Permutations.{apart, ascending_of-permutes, has-permutation, same, tied}
 use Rattle.ma_cover.specs.Classification.{AnyByRecursion, IsOnCell}
 use Rattle.ma_cover.proofs.Anys.{any-flat_map, any_alike, any_one, then_either}
-use Rattle.collapse_marks.specs.Cells.{AreCells, moved_cell, moved_cells, moved}
+use Rattle.cavity_collapse.specs.Collapsing.{moved_corners}
+use Rattle.collapse_marks.specs.Cells.{AreCells, moved_cell, moved_cells}
 use Rattle.plane_laws.proofs.Items.{any_or}
 use Rattle.collapse_marks.proofs.Orders.{on_reordered}
 
@@ -50,7 +51,7 @@ distinct-permutation s t order =
     sym (length-ascending_of place_cmp_total s).1 ∙ ap₂ eqb (ap length (sorted_corners s t order)) (sym (length_permutation s t order)) ∙ (length-ascending_of place_cmp_total t).1
 
 module _ (a v : Coordinates) where
-  moved_away : (s : List Coordinates) → has place_cmp a s ≡ false → moved a v s ≡ s
+  moved_away : (s : List Coordinates) → has place_cmp a s ≡ false → moved_corners a v s ≡ s
   moved_away [] h = refl
   moved_away (x ∷ s) h =
       let parts = or_parts (eq a x) (has place_cmp a s) h in
@@ -65,11 +66,11 @@ module _ (a v : Coordinates) where
     parts : (has place_cmp a others ≡ false) × (are_distinct place_cmp others ≡ true)
     parts = not_and (has place_cmp a others) (are_distinct place_cmp others) (distinct-permutation (a ∷ others) s order ∙ ascending-distinct s rises)
 
-    with_v : IsPermutation (v ∷ others) (moved a v s)
-    with_v = subst (λ t. IsPermutation t (moved a v s)) (ap₂ (λ b t. cond b v a ∷ t) (tied a) (moved_away others parts.0)) (IsPermutation-map (λ p. cond (eq p a) v p) (a ∷ others) s order)
+    with_v : IsPermutation (v ∷ others) (moved_corners a v s)
+    with_v = subst (λ t. IsPermutation t (moved_corners a v s)) (ap₂ (λ b t. cond b v a ∷ t) (tied a) (moved_away others parts.0)) (IsPermutation-map (λ p. cond (eq p a) v p) (a ∷ others) s order)
 
-    distinct_with_v : are_distinct place_cmp (moved a v s) ≡ not (has place_cmp v others)
-    distinct_with_v = sym (distinct-permutation (v ∷ others) (moved a v s) with_v) ∙ ap (λ b. not (has place_cmp v others) && b) parts.1 ∙ last (not (has place_cmp v others))
+    distinct_with_v : are_distinct place_cmp (moved_corners a v s) ≡ not (has place_cmp v others)
+    distinct_with_v = sym (distinct-permutation (v ∷ others) (moved_corners a v s) with_v) ∙ ap (λ b. not (has place_cmp v others) && b) parts.1 ∙ last (not (has place_cmp v others))
       where
         last : (b : Bool) → (b && true) ≡ b
         last true = refl
@@ -78,17 +79,17 @@ module _ (a v : Coordinates) where
     pub on_collapsed : (p : Rational) → AnyByRecursion (IsOnCell p) (moved_cell a v s) ↔ ((has place_cmp v others ≡ false) × IsOnCell p (v ∷ others))
     on_collapsed p = by (has place_cmp v others) refl
       where
-        to_sorted : has place_cmp v others ≡ false → IsPermutation (v ∷ others) (ascending_of place_cmp (moved a v s))
-        to_sorted e = IsPermutation-trans (v ∷ others) (moved a v s) (ascending_of place_cmp (moved a v s)) with_v (ascending_of-permutes (moved a v s) (distinct_with_v ∙ ap not e))
+        to_sorted : has place_cmp v others ≡ false → IsPermutation (v ∷ others) (ascending_of place_cmp (moved_corners a v s))
+        to_sorted e = IsPermutation-trans (v ∷ others) (moved_corners a v s) (ascending_of place_cmp (moved_corners a v s)) with_v (ascending_of-permutes (moved_corners a v s) (distinct_with_v ∙ ap not e))
 
-        by : (b : Bool) → has place_cmp v others ≡ b → AnyByRecursion (IsOnCell p) (cond (are_distinct place_cmp (moved a v s)) (ascending_of place_cmp (moved a v s) ∷ []) []) ↔ ((has place_cmp v others ≡ false) × IsOnCell p (v ∷ others))
+        by : (b : Bool) → has place_cmp v others ≡ b → AnyByRecursion (IsOnCell p) (cond (are_distinct place_cmp (moved_corners a v s)) (ascending_of place_cmp (moved_corners a v s) ∷ []) []) ↔ ((has place_cmp v others ≡ false) × IsOnCell p (v ∷ others))
         by true e =
-            subst (λ d. AnyByRecursion (IsOnCell p) (cond d (ascending_of place_cmp (moved a v s) ∷ []) []) ↔ ((has place_cmp v others ≡ false) × IsOnCell p (v ∷ others))) (sym (distinct_with_v ∙ ap not e))
+            subst (λ d. AnyByRecursion (IsOnCell p) (cond d (ascending_of place_cmp (moved_corners a v s) ∷ []) []) ↔ ((has place_cmp v others ≡ false) × IsOnCell p (v ∷ others))) (sym (distinct_with_v ∙ ap not e))
             ((λ h. absurd h), (λ h. absurd (false≢true (sym h.0 ∙ e))))
         by false e =
-            subst (λ d. AnyByRecursion (IsOnCell p) (cond d (ascending_of place_cmp (moved a v s) ∷ []) []) ↔ ((has place_cmp v others ≡ false) × IsOnCell p (v ∷ others))) (sym (distinct_with_v ∙ ap not e)) (
-              (λ h. (e, on_reordered p (ascending_of place_cmp (moved a v s)) (v ∷ others) (IsPermutation-sym (v ∷ others) (ascending_of place_cmp (moved a v s)) (to_sorted e)) ((any_one (IsOnCell p) (ascending_of place_cmp (moved a v s))).1 h))),
-              (λ h. inl (on_reordered p (v ∷ others) (ascending_of place_cmp (moved a v s)) (to_sorted e) h.1)),
+            subst (λ d. AnyByRecursion (IsOnCell p) (cond d (ascending_of place_cmp (moved_corners a v s) ∷ []) []) ↔ ((has place_cmp v others ≡ false) × IsOnCell p (v ∷ others))) (sym (distinct_with_v ∙ ap not e)) (
+              (λ h. (e, on_reordered p (ascending_of place_cmp (moved_corners a v s)) (v ∷ others) (IsPermutation-sym (v ∷ others) (ascending_of place_cmp (moved_corners a v s)) (to_sorted e)) ((any_one (IsOnCell p) (ascending_of place_cmp (moved_corners a v s))).1 h))),
+              (λ h. inl (on_reordered p (v ∷ others) (ascending_of place_cmp (moved_corners a v s)) (to_sorted e) h.1)),
             )
 
   -- ---- cells whose corners besides a are listed by `parts`

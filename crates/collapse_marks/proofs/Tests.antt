@@ -15,10 +15,9 @@ use Rattle.ma_geom.proofs.Identities.{vol6_exchange_bc, vol6_same_bd, vol6_same_
 use Rattle.ma_cells.specs.Ascending.{are_distinct, has}
 use Rattle.ma_cells.specs.Cells.{CellMark, corners_of, is_cell, mark_cmp}
 use Rattle.ma_cells.specs.Incidence.{is_marked}
-use Rattle.ma_cells.specs.Stars.{besides}
 use Rattle.ma_cells.specs.declared.cell.Cell.{Cell}
 use Rattle.ma_cells.specs.declared.cell.Cell.TheVariants.{Point, Seg, Tri}
-use Rattle.ma_cells.proofs.Passing.{all_pass}
+use Rattle.ma_cells.proofs.Passing.{all_pass, all_weaker}
 use Rattle.ma_cells.proofs.Permutations.{apart, has-permutation, same, tied}
 use Rattle.ma_cover.specs.Classification.{dimension, marked_cells}
 use Rattle.ma_cover.proofs.Anys.{test_any}
@@ -27,10 +26,10 @@ use Rattle.cavity_collapse.specs.Curves.{curve_ends, curves_are_kept, end_across
 use Rattle.cavity_collapse.specs.Surfaces.{across, edge_is_kept, are_on_both_sides, is_triangle_at, lies_in_plane, wings}
 use Rattle.plane_laws.specs.Planes.{CanMoveInPlanes, Edge, IsInnerOrOnLine, in_plane, thirds}
 use Rattle.plane_laws.proofs.Items.{IsIn, all_in, any, each, filter-alike, from_flat_map, in_filter, in_flat_map}
-use Rattle.collapse_marks.specs.Marks.{MarksAllow, is_bent_cell}
+use Rattle.collapse_marks.specs.Marks.{MarksAllow, MovedMarksKeepClassification, is_bent_cell}
 use Rattle.collapse_marks.specs.Segments.{AreStraight, ends_of}
 use Rattle.collapse_marks.specs.Triangles.{edge_of, link_of}
-use Rattle.collapse_marks.proofs.Classified.{CellsAllow, one}
+use Rattle.collapse_marks.proofs.Classified.{CellsAllow, classified_alike, one}
 use Rattle.collapse_marks.proofs.Corners.{IsAt, at_or_away, distinct_three, exchanged_sign}
 use Rattle.collapse_marks.proofs.Moved.{distinct-permutation, eq_turned}
 use Rattle.collapse_marks.proofs.Opposite.{opposite}
@@ -130,7 +129,7 @@ module _ (a v : Coordinates) (marks : List CellMark) (allow : MarksAllow a v mar
       at_a mark = eq_by_cmp (slice_cmp place_cmp) (corners_of mark.cell) (a ∷ [])
 
 -- ---- triangles
-module _ (a v : Coordinates) (differ : a ≢ v) (marks : List CellMark) (distinct : are_distinct mark_cmp marks ≡ true) (are : AllByRecursion (λ m. is_cell m.cell ≡ true) marks) (bent : AllByRecursion (λ m. is_bent_cell m.cell ≡ true) marks)
+module _ (a v : Coordinates) (marks : List CellMark) (distinct : are_distinct mark_cmp marks ≡ true) (are : AllByRecursion (λ m. is_cell m.cell ≡ true) marks) (bent : AllByRecursion (λ m. is_bent_cell m.cell ≡ true) marks)
     (allow : MarksAllow a v marks) (phys elem : ℤ) where
   abbrev link : List Edge
   link = link_of a (marked_cells 2 phys elem marks)
@@ -193,20 +192,16 @@ module _ (a v : Coordinates) (differ : a ≢ v) (marks : List CellMark) (distinc
   turn : (e : Edge) → IsIn e link → e.x ≢ v → e.y ≢ v → same_turn (a ∷ e.x ∷ e.y ∷ []) (v ∷ e.x ∷ e.y ∷ []) ≡ true
   turn e i x_v y_v =
       let s = source e i in
-      let Test : Cell → Type 0 = λ c. (not (is_triangle_at a c) || (has place_cmp v (corners_of c) || same_turn (a ∷ besides (a ∷ []) (corners_of c)) (v ∷ besides (a ∷ []) (corners_of c)))) ≡ true in
-      let test = subst Test s.cell
-      (tested (λ m. not (is_triangle_at a m.cell) || (has place_cmp v (corners_of m.cell) || same_turn (a ∷ besides (a ∷ []) (corners_of m.cell)) (v ∷ besides (a ∷ []) (corners_of m.cell)))) allow.turns e s) in
-      let lacks : has place_cmp v s.t ≡ false =
-      sym (has-permutation v (a ∷ e.x ∷ e.y ∷ []) s.t s.at.order) ∙ none (eq v a) (eq v e.x) (eq v e.y) (apart v a (λ e. differ (sym e))) (apart v e.x (λ f. x_v (sym f))) (apart v e.y (λ f. y_v (sym f))) in
-      subst (λ l. same_turn (a ∷ l) (v ∷ l) ≡ true) s.at.others
-      (rest (has place_cmp v s.t) (same_turn (a ∷ besides (a ∷ []) s.t) (v ∷ besides (a ∷ []) s.t)) lacks (after_not (has place_cmp a s.t) (has place_cmp v s.t || same_turn (a ∷ besides (a ∷ []) s.t) (v ∷ besides (a ∷ []) s.t)) test (has_a e s)))
+      let keeps = λ (rim : Coordinates × Coordinates). has place_cmp v (rim.0 ∷ rim.1 ∷ []) || same_turn (a ∷ rim.0 ∷ rim.1 ∷ []) (v ∷ rim.0 ∷ rim.1 ∷ []) in
+      let Test : Option (Coordinates × Coordinates) → Type 0 = λ o. list_all keeps (option_to_list o) ≡ true in
+      let test = subst Test s.at.across (subst (λ c. Test (across a c)) s.cell (tested (λ m. list_all keeps (option_to_list (across a m.cell))) allow.turns e s)) in
+      rest (eq v e.x) (eq v e.y) (same_turn (a ∷ e.x ∷ e.y ∷ []) (v ∷ e.x ∷ e.y ∷ [])) (apart v e.x (λ f. x_v (sym f))) (apart v e.y (λ f. y_v (sym f))) test
     where
-      none : (b c d : Bool) → b ≡ false → c ≡ false → d ≡ false → (b || (c || (d || false))) ≡ false
-      none b c d e f g = rw (e, f, g) refl
-
-      rest : (b c : Bool) → b ≡ false → (b || c) ≡ true → c ≡ true
-      rest true c e h = absurd (false≢true (sym e))
-      rest false c e h = h
+      rest : (b c d : Bool) → b ≡ false → c ≡ false → (((b || (c || false)) || d) && true) ≡ true → d ≡ true
+      rest true c d e f h = absurd (false≢true (sym e))
+      rest false true d e f h = absurd (false≢true (sym f))
+      rest false false true e f h = refl
+      rest false false false e f h = absurd (false≢true h)
 
   -- an edge at a, from either triangle's side
   inner : (e : Edge) (s : Source e) (z w : Coordinates) → eq a z ≡ false → coplanar a e.x e.y z ≡ true → ((b : Coordinates) → coplanar a z w b ≡ coplanar a e.x e.y b) → IsIn w (thirds z (in_plane a e link)) → edge_is_kept marks a v s.m z w ≡ true
@@ -251,10 +246,17 @@ module _ (a v : Coordinates) (differ : a ≢ v) (marks : List CellMark) (distinc
     turns = all_in (λ e. e.x ≢ v → e.y ≢ v → same_turn (a ∷ e.x ∷ e.y ∷ []) (v ∷ e.x ∷ e.y ∷ []) ≡ true) link turn;
   }
 
-pub cells_allow : (a v : Coordinates) → a ≢ v → (marks : List CellMark) → are_distinct mark_cmp marks ≡ true → AllByRecursion (λ m. is_cell m.cell ≡ true) marks → AllByRecursion (λ m. is_bent_cell m.cell ≡ true) marks → MarksAllow a v marks
+pub cells_allow : (a v : Coordinates) → (marks : List CellMark) → are_distinct mark_cmp marks ≡ true → AllByRecursion (λ m. is_cell m.cell ≡ true) marks → AllByRecursion (λ m. is_bent_cell m.cell ≡ true) marks → MarksAllow a v marks
     → CellsAllow a v marks
-cells_allow a v differ marks distinct are bent allow = record {
+cells_allow a v marks distinct are bent allow = record {
   points = points a v marks allow;
   segments = segments a v marks allow;
-  triangles = λ phys elem. triangles a v differ marks distinct are bent allow phys elem;
+  triangles = λ phys elem. triangles a v marks distinct are bent allow phys elem;
 }
+
+pub moved_marks_keep_classification : MovedMarksKeepClassification
+moved_marks_keep_classification a v marks distinct cells allow =
+    let all = all_pass (λ m. is_cell m.cell && is_bent_cell m.cell) marks cells in
+    let are = all_weaker (λ m. (is_cell m.cell && is_bent_cell m.cell) ≡ true) (λ m. is_cell m.cell ≡ true) (λ m h. (and_parts (is_cell m.cell) (is_bent_cell m.cell) h).0) marks all in
+    let bent = all_weaker (λ m. (is_cell m.cell && is_bent_cell m.cell) ≡ true) (λ m. is_bent_cell m.cell ≡ true) (λ m h. (and_parts (is_cell m.cell) (is_bent_cell m.cell) h).1) marks all in
+    classified_alike a v marks are (cells_allow a v marks distinct are bent allow)

@@ -31,5 +31,5 @@ pub record MarksAllow (a v : Coordinates) (marks : List CellMark) : Type 0 where
 
 -- then the moved marks classify each point as the marks do, if these are different marks on cells, and no triangle lies on a line
 abbrev pub MovedMarksKeepClassification : Type 0
-MovedMarksKeepClassification = (a v : Coordinates) (marks : List CellMark) → a ≢ v → are_distinct mark_cmp marks ≡ true → list_all (λ m. is_cell m.cell && is_bent_cell m.cell) marks ≡ true
+MovedMarksKeepClassification = (a v : Coordinates) (marks : List CellMark) → are_distinct mark_cmp marks ≡ true → list_all (λ m. is_cell m.cell && is_bent_cell m.cell) marks ≡ true
     → MarksAllow a v marks → KeepsClassification marks (moved_marks a v marks)
