@@ -7,3 +7,4 @@ pub mod Corners
 pub mod Opposite
 pub mod Wings
 pub mod Tests
+pub mod Legal

@@ -2,3 +2,4 @@ pub mod Cells
 pub mod Segments
 pub mod Triangles
 pub mod Marks
+pub mod Legal

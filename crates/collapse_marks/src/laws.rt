@@ -1,4 +1,5 @@
 //! Each law is the contract of a function that does nothing.
+ghost use Rattle.collapse_marks.specs.Legal.{LegalCollapseKeepsClassification};
 ghost use Rattle.collapse_marks.specs.Marks.{MovedMarksKeepClassification};
 ghost use Rattle.collapse_marks.specs.Segments.{SegmentsKeepPoints};
 ghost use Rattle.collapse_marks.specs.Triangles.{TrianglesKeepPoints};
@@ -16,4 +17,9 @@ pub fn triangles_keep_points()
 /// Where the tests of a collapse that look at marks pass, the moved marks classify each point as before.
 pub fn moved_marks_keep_classification()
     ensures { MovedMarksKeepClassification }
+{}
+
+/// So a legal collapse in a sound mesh keeps the classification.
+pub fn legal_collapse_keeps_classification()
+    ensures { LegalCollapseKeepsClassification }
 {}
