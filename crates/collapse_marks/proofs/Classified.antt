@@ -1,16 +1,16 @@
 -- Moved marks classify points as the marks do, if their segments and triangles with each tag keep their points.
-use Rattle.std.proofs.Common.{◌≡◌, ◌≢◌, ◌⊎◌, inl, inr, ⊎_elim, ℕ, zero, suc, ◌<◌, Bool, true, false, cond, ◌&&◌, ◌||◌, eqb, List, [], ◌∷◌, ◌++◌, length, Option, Some, None, refl, sym, ap, ap₂, subst, ◌∙◌, arith, eqb-true}
+use Rattle.std.proofs.Common.{◌≡◌, ◌≢◌, ℕ, zero, suc, ◌<◌, Bool, true, false, cond, ◌&&◌, ◌||◌, List, [], ◌∷◌, ◌++◌, length, None, refl, sym, ap, ap₂, subst, ◌∙◌, arith, eqb-true}
 use Rattle.std.specs.Prelude.{◌↔◌, ℤ, ◌==◌}
 use Rattle.std.specs.List.{AllByRecursion, flat_map}
 use Rattle.std.specs.Option.{option_map, option_to_list}
-use Rattle.std.specs.Ordering.{eq_by_cmp, int_eq}
+use Rattle.std.specs.Ordering.{int_eq}
 use Rattle.std.proofs.lemmas.Bool.{and_parts, false≢true}
 use Rattle.std.proofs.lemmas.List.Concat.{flat_map-append}
 use Rattle.ma_geom.specs.Coordinates.{Coordinates, place_cmp}
-use Rattle.ma_geom.specs.Rational.{IsPoint, Rational}
+use Rattle.ma_geom.specs.Rational.{Rational}
 use Rattle.ma_geom.proofs.PlaceOrder.{place_cmp_total}
-use Rattle.ma_cells.specs.Ascending.{are_ascending, are_distinct, ascending_of, has}
-use Rattle.ma_cells.specs.Cells.{CellMark, cell_of, cell_on, corners_of, is_cell, mark_cmp, mark_on}
+use Rattle.ma_cells.specs.Ascending.{are_ascending, are_distinct, ascending_of}
+use Rattle.ma_cells.specs.Cells.{CellMark, cell_on, corners_of, is_cell, mark_cmp, mark_on}
 use Rattle.ma_cells.specs.declared.cell.Cell.{Cell}
 use Rattle.ma_cells.specs.declared.cell.Cell.TheVariants.{Point, Seg, Tri}
 use Rattle.ma_cells.proofs.Ascents.{length-ascending_of}
@@ -21,12 +21,12 @@ use Rattle.ma_cover.specs.Classification.{AnyByRecursion, IsOn, IsOnCell, KeepsC
 use Rattle.ma_cover.proofs.Anys.{any-ascending_of, any-flat_map, then_either}
 use Rattle.plane_laws.specs.Planes.{CanMoveInPlanes}
 use Rattle.cavity_collapse.specs.Collapsing.{moved_corners, moved_mark, moved_marks}
-use Rattle.collapse_marks.specs.Cells.{AreCells, moved_cell, moved_cells}
-use Rattle.collapse_marks.specs.Segments.{AreStraight, ends_of}
-use Rattle.collapse_marks.specs.Triangles.{link_of}
-use Rattle.collapse_marks.proofs.Moved.{moved_cell_away}
-use Rattle.collapse_marks.proofs.Segments.{segments_keep_points}
-use Rattle.collapse_marks.proofs.Triangles.{triangles_keep_points}
+use Rattle.moved_cells.specs.Cells.{AreCells, moved_cell, moved_cells}
+use Rattle.moved_cells.specs.Segments.{AreStraight, ends_of}
+use Rattle.moved_cells.specs.Triangles.{link_of}
+use Rattle.moved_cells.proofs.Moved.{moved_cell_away}
+use Rattle.moved_cells.proofs.Segments.{segments_keep_points}
+use Rattle.moved_cells.proofs.Triangles.{triangles_keep_points}
 
 abbrev AreMarks : List CellMark → Type 0
 AreMarks marks = AllByRecursion (λ m. is_cell m.cell ≡ true) marks

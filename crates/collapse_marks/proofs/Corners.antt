@@ -1,10 +1,8 @@
 -- Triangles at a vertex a, by the edge across from it: their plane, and their third corners at an edge.
-use Rattle.std.proofs.Common.{◌≡◌, ◌≢◌, ◌⊎◌, inl, inr, Bool, true, false, cond, not, ◌&&◌, ◌||◌, List, [], ◌∷◌, filter, Option, Some, None, refl, sym, ap, ap₂, subst, ◌∙◌, arith}
+use Rattle.std.proofs.Common.{◌≡◌, ◌≢◌, ◌⊎◌, inl, inr, Bool, true, false, cond, not, ◌&&◌, ◌||◌, List, [], ◌∷◌, Option, Some, None, refl, sym, ap, ap₂, subst, ◌∙◌, arith}
 use Rattle.std.specs.Prelude.{ℤ, pos, neg_ℤ}
-use Rattle.std.specs.Option.{option_to_list}
 use Rattle.std.specs.List.Sorted.{IsPermutation}
 use Rattle.std.specs.Ordering.{eq_by_cmp, int_eq}
-use Rattle.std.proofs.lemmas.Bool.{and_parts, false≢true}
 use Rattle.std.proofs.lemmas.Int.{ints}
 use Rattle.std.proofs.lemmas.List.Sorted.{IsPermutation-refl, IsPermutation-swap, IsPermutation-trans}
 use Rattle.ma_geom.specs.Coordinates.{Coordinates, place_cmp}
@@ -12,12 +10,12 @@ use Rattle.ma_geom.specs.Lines.{collinear, coplanar, normal}
 use Rattle.ma_geom.proofs.Identities.{vol6_exchange_ab, vol6_turn_abc}
 use Rattle.ma_geom.proofs.Reified.{Triple, cross', minus', place, places}
 use Rattle.ma_geom.proofs.Ring.{neg, ring}
-use Rattle.ma_cells.specs.Ascending.{are_distinct, has}
+use Rattle.ma_cells.specs.Ascending.{are_distinct}
 use Rattle.ma_cells.proofs.Permutations.{apart, same, tied}
 use Rattle.cavity_collapse.specs.Surfaces.{corner_beyond, corners_across, lies_in_plane}
 use Rattle.plane_laws.specs.Planes.{Edge}
 use Rattle.collapse_marks.specs.Marks.{is_bent}
-use Rattle.collapse_marks.proofs.Moved.{eq_turned, not_and, or_parts}
+use Rattle.moved_cells.proofs.Moved.{eq_turned, not_and, or_parts}
 
 abbrev eq : Coordinates → Coordinates → Bool
 eq = eq_by_cmp place_cmp

@@ -1,18 +1,17 @@
 -- A legal collapse in a sound mesh passes the tests of marks, and marks away from the vertex don't matter.
-use Rattle.std.proofs.Common.{◌≡◌, ◌≢◌, ◌⊎◌, inl, inr, ⊎_elim, ℕ, suc, Bool, true, false, cond, not, ◌&&◌, ◌||◌, List, [], ◌∷◌, ◌++◌, filter, length, Option, Some, None, refl, sym, ap, ap₂, subst, ◌∙◌}
-use Rattle.std.specs.Prelude.{ℤ, pos, map, ◌==◌}
-use Rattle.std.specs.List.{AllByRecursion, flat_map, list_all}
-use Rattle.std.specs.List.Sorted.{IsPermutation}
+use Rattle.std.proofs.Common.{◌≡◌, ◌≢◌, ℕ, suc, Bool, true, false, cond, not, ◌&&◌, ◌||◌, List, [], ◌∷◌, ◌++◌, filter, refl, sym, ap, ap₂, subst, ◌∙◌}
+use Rattle.std.specs.Prelude.{ℤ, pos, ◌==◌}
+use Rattle.std.specs.List.{AllByRecursion, flat_map}
 use Rattle.std.specs.Option.{option_to_list}
 use Rattle.std.specs.Ordering.{eq_by_cmp, int_eq}
-use Rattle.std.proofs.lemmas.Bool.{and_parts, false≢true, false_from_ne_true, or_cases}
+use Rattle.std.proofs.lemmas.Bool.{and_parts, false≢true}
 use Rattle.std.proofs.lemmas.List.Concat.{flat_map-append}
 use Rattle.std.proofs.lemmas.List.Sorted.{IsPermutation-sym}
 use Rattle.ma_geom.specs.Coordinates.{Coordinates, place_cmp}
 use Rattle.ma_geom.specs.Lines.{collinear}
 use Rattle.ma_geom.specs.Volume.{vol6}
 use Rattle.ma_geom.proofs.Identities.{flat_in_any_order}
-use Rattle.ma_cells.specs.Ascending.{are_ascending, are_distinct, has}
+use Rattle.ma_cells.specs.Ascending.{are_distinct, has}
 use Rattle.ma_cells.specs.Cells.{CellMark, corners_of, is_cell, mark_cmp}
 use Rattle.ma_cells.specs.Faces.{holds_all}
 use Rattle.ma_cells.specs.Incidence.{is_on}
@@ -37,16 +36,14 @@ use Rattle.cavity_rank.specs.declared.verdict.Verdict.TheVariants.{Illegal, Lega
 use Rattle.cavity_collapse.specs.Collapsing.{collapsed}
 use Rattle.cavity_collapse.specs.Curves.{end_across}
 use Rattle.cavity_collapse.specs.Judging.{collapse_tests}
-use Rattle.cavity_collapse.specs.Surfaces.{corners_across}
 use Rattle.plane_laws.specs.Planes.{CanMoveInPlanes}
 use Rattle.plane_laws.proofs.Items.{all_in, each, in_filter}
 use Rattle.collapse_marks.specs.Legal.{LegalCollapseKeepsClassification}
 use Rattle.collapse_marks.specs.Marks.{is_bent, is_bent_cell}
-use Rattle.collapse_marks.specs.Segments.{AreStraight, ends_of}
-use Rattle.collapse_marks.specs.Triangles.{edge_of, link_of}
+use Rattle.moved_cells.specs.Segments.{AreStraight}
 use Rattle.collapse_marks.proofs.Classified.{CellsAllow, classified_alike, one}
 use Rattle.collapse_marks.proofs.Corners.{distinct_three}
-use Rattle.collapse_marks.proofs.Moved.{ascending-distinct, eq_turned, not_and, or_parts}
+use Rattle.moved_cells.proofs.Moved.{eq_turned, not_and, or_parts}
 use Rattle.collapse_marks.proofs.Tests.{cells_allow}
 use Rattle.collapse_marks.proofs.Wings.{distinct_corners, edges}
 
@@ -169,8 +166,8 @@ legal_collapse_keeps_classification field mesh a v w sound distinct legal =
     let solid = tetrahedra_not_flat mesh.tets sound.tetrahedra in
     let on = all_pass (λ m. is_on mesh.tets m.cell) mesh.marks sound.sound.conforming.on_cells in
     let bent_all = all_two (λ (m : CellMark). is_cell m.cell ≡ true) (λ m. is_on mesh.tets m.cell ≡ true) (λ m. is_bent_cell m.cell ≡ true) (λ m cell there.
-        any_gives (λ (tet : Tetrahedron). (is_flat tet.corners ≡ false) × (holds_all tet.corners (corners_of m.cell) ≡ true)) (λ tet both. bent_on m.cell cell tet.corners both.0 both.1) mesh.tets
-            (any_and_all (λ (tet : Tetrahedron). is_flat tet.corners ≡ false) (λ tet. holds_all tet.corners (corners_of m.cell) ≡ true) mesh.tets solid (any_pass (λ (tet : Tetrahedron). holds_all tet.corners (corners_of m.cell)) mesh.tets there))) mesh.marks are on in
+    any_gives (λ (tet : Tetrahedron). (is_flat tet.corners ≡ false) × (holds_all tet.corners (corners_of m.cell) ≡ true)) (λ tet both. bent_on m.cell cell tet.corners both.0 both.1) mesh.tets
+    (any_and_all (λ (tet : Tetrahedron). is_flat tet.corners ≡ false) (λ tet. holds_all tet.corners (corners_of m.cell) ≡ true) mesh.tets solid (any_pass (λ (tet : Tetrahedron). holds_all tet.corners (corners_of m.cell)) mesh.tets there))) mesh.marks are on in
     classified_alike a v mesh.marks are (from_at a v mesh.marks (cells_allow a v ms (filter-distinct at_a mesh.marks distinct)
     (all-filter (λ m. is_cell m.cell ≡ true) at_a mesh.marks are) (all-filter (λ m. is_bent_cell m.cell ≡ true) at_a mesh.marks bent_all)
     (record { points = tests.1.0; curves = tests.1.1.0; planes = tests.1.1.1.0; surfaces = tests.1.1.1.1.0; turns = tests.1.1.1.1.1.0 })))

@@ -1,10 +1,7 @@
-pub mod Orders
-pub mod Moved
-pub mod Segments
-pub mod Triangles
 pub mod Classified
 pub mod Corners
 pub mod Opposite
 pub mod Wings
 pub mod Tests
 pub mod Legal
+pub mod Examples

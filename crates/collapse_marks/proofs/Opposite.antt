@@ -8,7 +8,7 @@ use Rattle.ma_geom.specs.Coordinates.{Coordinates, place_cmp}
 use Rattle.ma_geom.specs.Lines.{normal}
 use Rattle.ma_geom.specs.Signs.{same_sign, sign_of}
 use Rattle.ma_geom.specs.Turns.{same_turn}
-use Rattle.ma_geom.specs.declared.signs.Sign.TheVariants.{Minus, Zero, Plus}
+use Rattle.ma_geom.specs.declared.signs.Sign.TheVariants.{Zero}
 use Rattle.ma_geom.proofs.Reified.{Triple, cross', minus', place, places}
 use Rattle.ma_geom.proofs.Ring.{neg, ring}
 use Rattle.ma_cells.specs.Ascending.{are_distinct, has}
@@ -18,7 +18,7 @@ use Rattle.ma_cover.proofs.Anys.{any_pass}
 use Rattle.cavity_collapse.specs.Surfaces.{are_on_both_sides}
 use Rattle.plane_laws.specs.Planes.{AreOpposite}
 use Rattle.plane_laws.proofs.Items.{IsIn, witness}
-use Rattle.collapse_marks.proofs.Moved.{not_and}
+use Rattle.moved_cells.proofs.Moved.{not_and}
 
 abbrev eq : Coordinates → Coordinates → Bool
 eq = eq_by_cmp place_cmp

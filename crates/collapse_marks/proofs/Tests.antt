@@ -1,5 +1,5 @@
 -- Where the tests of a collapse that look at marks pass, the marked cells let the vertex go.
-use Rattle.std.proofs.Common.{◌≡◌, ◌≢◌, ◌⊎◌, inl, inr, ⊎_elim, ℕ, Bool, true, false, cond, not, ◌&&◌, ◌||◌, List, [], ◌∷◌, ◌++◌, filter, Option, Some, None, refl, sym, ap, ap₂, subst, ◌∙◌}
+use Rattle.std.proofs.Common.{◌≡◌, ◌≢◌, inl, inr, ⊎_elim, ℕ, Bool, true, false, cond, not, ◌&&◌, ◌||◌, List, [], ◌∷◌, ◌++◌, Option, Some, None, refl, sym, ap, ap₂, subst, ◌∙◌}
 use Rattle.std.specs.Prelude.{ℤ, pos, map, ◌==◌}
 use Rattle.std.specs.Cmp.Lexicographic.{slice_cmp}
 use Rattle.std.specs.List.{AllByRecursion, flat_map, list_all}
@@ -14,24 +14,23 @@ use Rattle.ma_geom.specs.Volume.{vol6}
 use Rattle.ma_geom.proofs.Identities.{vol6_exchange_bc, vol6_same_bd, vol6_same_cd}
 use Rattle.ma_cells.specs.Ascending.{are_distinct, has}
 use Rattle.ma_cells.specs.Cells.{CellMark, corners_of, is_cell, mark_cmp}
-use Rattle.ma_cells.specs.Incidence.{is_marked}
 use Rattle.ma_cells.specs.declared.cell.Cell.{Cell}
 use Rattle.ma_cells.specs.declared.cell.Cell.TheVariants.{Point, Seg, Tri}
 use Rattle.ma_cells.proofs.Passing.{all_pass, all_weaker}
-use Rattle.ma_cells.proofs.Permutations.{apart, has-permutation, same, tied}
+use Rattle.ma_cells.proofs.Permutations.{apart, has-permutation, tied}
 use Rattle.ma_cover.specs.Classification.{dimension, marked_cells}
 use Rattle.ma_cover.proofs.Anys.{test_any}
 use Rattle.mesh_laws.proofs.Listings.{same_itself}
-use Rattle.cavity_collapse.specs.Curves.{curve_ends, curves_are_kept, end_across, far_end, is_segment_at, run_straight, tagged_end}
+use Rattle.cavity_collapse.specs.Curves.{curve_ends, end_across, far_end, is_segment_at, run_straight, tagged_end}
 use Rattle.cavity_collapse.specs.Surfaces.{across, edge_is_kept, are_on_both_sides, is_triangle_at, lies_in_plane, wings}
 use Rattle.plane_laws.specs.Planes.{CanMoveInPlanes, Edge, IsInnerOrOnLine, in_plane, thirds}
 use Rattle.plane_laws.proofs.Items.{IsIn, all_in, any, each, filter-alike, from_flat_map, in_filter, in_flat_map}
 use Rattle.collapse_marks.specs.Marks.{MarksAllow, MovedMarksKeepClassification, is_bent_cell}
-use Rattle.collapse_marks.specs.Segments.{AreStraight, ends_of}
-use Rattle.collapse_marks.specs.Triangles.{edge_of, link_of}
+use Rattle.moved_cells.specs.Segments.{AreStraight, ends_of}
+use Rattle.moved_cells.specs.Triangles.{edge_of, link_of}
 use Rattle.collapse_marks.proofs.Classified.{CellsAllow, classified_alike, one}
 use Rattle.collapse_marks.proofs.Corners.{IsAt, at_or_away, distinct_three, exchanged_sign}
-use Rattle.collapse_marks.proofs.Moved.{distinct-permutation, eq_turned}
+use Rattle.moved_cells.proofs.Moved.{distinct-permutation, eq_turned}
 use Rattle.collapse_marks.proofs.Opposite.{opposite}
 use Rattle.collapse_marks.proofs.Wings.{HasTag, distinct_corners, edges, tag_is, tags_alike, thirds_of, wings_are, wings_distinct}
 

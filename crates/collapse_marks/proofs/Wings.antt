@@ -1,5 +1,5 @@
 -- The third corners of marked triangles at an edge, by the link of the vertex.
-use Rattle.std.proofs.Common.{◌≡◌, ◌≢◌, ◌⊎◌, inl, inr, ⊎_elim, Bool, true, false, cond, not, ◌&&◌, ◌||◌, List, [], ◌∷◌, ◌++◌, filter, length, Option, Some, None, refl, sym, ap, ap₂, subst, ◌∙◌, arith, eqb-true}
+use Rattle.std.proofs.Common.{◌≡◌, ◌≢◌, inl, inr, ⊎_elim, Bool, true, false, cond, ◌&&◌, List, [], ◌∷◌, ◌++◌, filter, length, Option, Some, None, refl, sym, ap, ap₂, subst, ◌∙◌, arith}
 use Rattle.std.specs.Prelude.{ℤ, map, ◌==◌}
 use Rattle.std.specs.List.{AllByRecursion, flat_map}
 use Rattle.std.specs.Option.{option_to_list}
@@ -9,26 +9,26 @@ use Rattle.std.proofs.lemmas.Bool.{and_parts, false≢true, false_from_ne_true, 
 use Rattle.std.proofs.lemmas.Int.{ints}
 use Rattle.std.proofs.lemmas.List.Concat.{flat_map-append}
 use Rattle.std.proofs.lemmas.List.Elements.{filter-append}
-use Rattle.std.proofs.lemmas.List.Sorted.{IsPermutation-cons, IsPermutation-swap, IsPermutation-sym, IsPermutation-trans}
+use Rattle.std.proofs.lemmas.List.Sorted.{IsPermutation-swap, IsPermutation-sym, IsPermutation-trans}
 use Rattle.ma_geom.specs.Coordinates.{Coordinates, place_cmp}
 use Rattle.ma_cells.specs.Ascending.{are_ascending, are_distinct, has}
 use Rattle.ma_cells.specs.Cells.{CellMark, corners_of, is_cell, mark_cmp}
 use Rattle.ma_cells.specs.declared.cell.Cell.{Cell}
 use Rattle.ma_cells.specs.declared.cell.Cell.TheVariants.{Point, Seg, Tri}
 use Rattle.ma_cells.proofs.Ascents.{has-head}
-use Rattle.ma_cells.proofs.CellOrders.{mark_cmp-IsAntisymmetric, mark_cmp_total}
+use Rattle.ma_cells.proofs.CellOrders.{mark_cmp_total}
 use Rattle.ma_cells.proofs.Corners.{ascending_is, sorted_corners}
-use Rattle.ma_cells.proofs.Permutations.{same, tied}
+use Rattle.ma_cells.proofs.Permutations.{same}
 use Rattle.ma_cover.specs.Classification.{dimension, marked_cells}
 use Rattle.ma_cover.proofs.Anys.{any_pass, any_weaker}
 use Rattle.cavity_collapse.specs.Curves.{same_tag}
 use Rattle.cavity_collapse.specs.Surfaces.{corner_beyond, corners_across, tagged_third, third}
 use Rattle.plane_laws.specs.Planes.{Edge, thirds}
 use Rattle.plane_laws.proofs.Items.{IsIn, each, from_filter, from_flat_map}
-use Rattle.collapse_marks.specs.Triangles.{edge_of, link_of}
+use Rattle.moved_cells.specs.Triangles.{edge_of, link_of}
 use Rattle.collapse_marks.proofs.Classified.{one}
-use Rattle.collapse_marks.proofs.Corners.{IsAt, IsAway, at_or_away, beyond}
-use Rattle.collapse_marks.proofs.Moved.{ascending-distinct, not_and}
+use Rattle.collapse_marks.proofs.Corners.{at_or_away, beyond}
+use Rattle.moved_cells.proofs.Moved.{ascending-distinct, not_and}
 
 abbrev eq : Coordinates → Coordinates → Bool
 eq = eq_by_cmp place_cmp

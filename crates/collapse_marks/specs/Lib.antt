@@ -1,5 +1,2 @@
-pub mod Cells
-pub mod Segments
-pub mod Triangles
 pub mod Marks
 pub mod Legal

@@ -1,4 +1,4 @@
-//! Laws of marks in a collapse: points stay classified.
+//! Laws of the marks of a legal collapse: they classify each point as before.
 #![tactic(auto)]
 
 pub mod laws;

@@ -10,7 +10,6 @@ use Rattle.ma_geom.specs.Coordinates.{Coordinates, place_cmp}
 use Rattle.ma_geom.specs.Rational.{Rational}
 use Rattle.ma_cells.specs.Ascending.{has}
 use Rattle.ma_cells.proofs.Permutations.{same}
-use Rattle.ma_cover.specs.Classification.{AnyByRecursion}
 use Rattle.ma_cover.specs.OnFaces.{IsOnTriangle}
 use Rattle.ma_cover.proofs.Anys.{any_alike, then_either}
 use Rattle.ma_cells.proofs.Passing.{all_anyway}
@@ -18,8 +17,8 @@ use Rattle.cavity_collapse.specs.Surfaces.{corners_across}
 use Rattle.plane_laws.specs.Planes.{Edge, IsOnFan, link_without}
 use Rattle.plane_laws.proofs.Items.{any-filter}
 use Rattle.plane_laws.proofs.Planes.{planes_keep_points}
-use Rattle.collapse_marks.specs.Triangles.{TrianglesKeepPoints, edge_of, link_of}
-use Rattle.collapse_marks.proofs.Moved.{HasPart, IsOnKept, eq_turned, keeps_points}
+use Rattle.moved_cells.specs.Triangles.{TrianglesKeepPoints, edge_of, link_of}
+use Rattle.moved_cells.proofs.Moved.{HasPart, IsOnKept, eq_turned, keeps_points}
 
 abbrev eq : Coordinates → Coordinates → Bool
 eq = eq_by_cmp place_cmp

@@ -7,7 +7,7 @@ use Rattle.ma_geom.specs.Rational.{IsPoint, Rational}
 use Rattle.ma_cover.specs.Classification.{AnyByRecursion, IsOnCell}
 use Rattle.plane_laws.specs.Planes.{CanMoveInPlanes, Edge}
 use Rattle.cavity_collapse.specs.Surfaces.{corners_across}
-use Rattle.collapse_marks.specs.Cells.{AreCells, moved_cells}
+use Rattle.moved_cells.specs.Cells.{AreCells, moved_cells}
 
 abbrev pub edge_of : Coordinates × Coordinates → Edge
 edge_of ends = record { x = ends.0; y = ends.1 }

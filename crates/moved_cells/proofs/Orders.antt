@@ -1,13 +1,11 @@
 -- Cells with their corners in any order.
-use Rattle.std.proofs.Common.{◌≡◌, ℕ, zero, suc, ◌<◌, List, [], ◌∷◌, length, arith}
-use Rattle.std.specs.Prelude.{ℤ, ◌+ℤ◌, ◌*ℤ◌}
+use Rattle.std.proofs.Common.{ℕ, zero, suc, ◌<◌, List, [], ◌∷◌, length, arith}
 use Rattle.std.specs.List.{swap}
 use Rattle.std.specs.List.Sorted.{IsPermutation}
-use Rattle.std.proofs.lemmas.Int.{ints}
 use Rattle.std.proofs.lemmas.List.Sorted.{IsPermutation-keeps}
 use Rattle.ma_geom.specs.Coordinates.{Coordinates}
 use Rattle.ma_geom.specs.Rational.{Rational}
-use Rattle.ma_cover.specs.Classification.{IsOnCell, IsOnSegment}
+use Rattle.ma_cover.specs.Classification.{IsOnCell}
 use Rattle.plane_laws.proofs.Lines.{on_segment_turned}
 use Rattle.ma_cover.proofs.Halves.{on_exchanged, on_turned}
 

@@ -6,7 +6,7 @@ use Rattle.ma_geom.specs.Coordinates.{Coordinates}
 use Rattle.ma_geom.specs.Rational.{Rational}
 use Rattle.ma_cover.specs.Classification.{AnyByRecursion, IsOnCell}
 use Rattle.cavity_collapse.specs.Curves.{end_across, run_straight}
-use Rattle.collapse_marks.specs.Cells.{AreCells, moved_cells}
+use Rattle.moved_cells.specs.Cells.{AreCells, moved_cells}
 
 -- the other ends of the segments at a
 abbrev pub ends_of : Coordinates → List (List Coordinates) → List Coordinates

@@ -17,8 +17,8 @@ use Rattle.ma_cover.specs.Classification.{IsOnSegment}
 use Rattle.ma_cover.proofs.Anys.{any_pass, any_weaker}
 use Rattle.plane_laws.proofs.Items.{IsIn, any, each, witness}
 use Rattle.plane_laws.proofs.Lines.{between_apart, on_segment_turned, segment_has_two_parts}
-use Rattle.collapse_marks.specs.Segments.{AreStraight, SegmentsKeepPoints, ends_of}
-use Rattle.collapse_marks.proofs.Moved.{HasPart, IsOnKept, IsOnParts, eq_turned, keeps_points}
+use Rattle.moved_cells.specs.Segments.{AreStraight, SegmentsKeepPoints, ends_of}
+use Rattle.moved_cells.proofs.Moved.{HasPart, IsOnKept, IsOnParts, eq_turned, keeps_points}
 
 abbrev eq : Coordinates → Coordinates → Bool
 eq = eq_by_cmp place_cmp

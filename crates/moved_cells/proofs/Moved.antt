@@ -1,7 +1,7 @@
 -- Cells of which a vertex a is moved to v: points stay on them, if they stay on the cells that have a.
-use Rattle.std.proofs.Common.{◌≡◌, ◌≢◌, ◌⊎◌, inl, inr, ⊎_elim, ℕ, Bool, true, false, cond, not, ◌&&◌, ◌||◌, eqb, List, [], ◌∷◌, length, refl, sym, ap, ap₂, subst, ◌∙◌, eq-eqb}
-use Rattle.std.specs.Prelude.{◌↔◌, map}
-use Rattle.std.specs.List.{AllByRecursion, flat_map}
+use Rattle.std.proofs.Common.{◌≡◌, ◌⊎◌, inl, inr, ⊎_elim, ℕ, Bool, true, false, cond, not, ◌&&◌, ◌||◌, eqb, List, [], ◌∷◌, length, refl, sym, ap, ap₂, subst, ◌∙◌, eq-eqb}
+use Rattle.std.specs.Prelude.{◌↔◌}
+use Rattle.std.specs.List.{flat_map}
 use Rattle.std.specs.List.Sorted.{IsPermutation}
 use Rattle.std.specs.Ordering.{eq_by_cmp}
 use Rattle.std.proofs.lemmas.Bool.{false≢true}
@@ -16,9 +16,9 @@ use Rattle.ma_cells.proofs.Permutations.{apart, ascending_of-permutes, has-permu
 use Rattle.ma_cover.specs.Classification.{AnyByRecursion, IsOnCell}
 use Rattle.ma_cover.proofs.Anys.{any-flat_map, any_alike, any_one, then_either}
 use Rattle.cavity_collapse.specs.Collapsing.{moved_corners}
-use Rattle.collapse_marks.specs.Cells.{AreCells, moved_cell, moved_cells}
+use Rattle.moved_cells.specs.Cells.{AreCells, moved_cell, moved_cells}
 use Rattle.plane_laws.proofs.Items.{any_or}
-use Rattle.collapse_marks.proofs.Orders.{on_reordered}
+use Rattle.moved_cells.proofs.Orders.{on_reordered}
 
 abbrev eq : Coordinates → Coordinates → Bool
 eq = eq_by_cmp place_cmp
