@@ -13,7 +13,7 @@ use Rattle.cavity_collapse.specs.Collapsing.{moved_marks}
 use Rattle.cavity_collapse.specs.Curves.{curves_are_kept, is_free_point}
 use Rattle.cavity_collapse.specs.Surfaces.{planes_are_kept, surfaces_are_kept, turns_are_kept}
 
--- whether these aren't three places on one line
+-- whether these are no three places on one line
 abbrev pub is_bent : List Coordinates → Bool
 is_bent (p ∷ q ∷ r ∷ []) = not (collinear p q r)
 is_bent _ = true
