@@ -1,0 +1,5 @@
+pub mod Collapsing
+pub mod Curves
+pub mod Surfaces
+pub mod Judging
+pub mod Steps
