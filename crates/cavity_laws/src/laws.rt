@@ -1,0 +1,7 @@
+//! Each law is the contract of a function that does nothing.
+ghost use Rattle.cavity_laws.specs.Cavity.{CavityKeepsCover};
+
+/// The cones that fill a cavity have a point within them as often as its tetrahedra.
+pub fn cavity_keeps_cover()
+    ensures { CavityKeepsCover }
+{}
