@@ -1,10 +1,12 @@
 -- The cones of a cavity keep its cover.
-use Rattle.std.proofs.Common.{◌≡◌, ◌≢◌, ℕ, zero, suc, ◌⊎◌, inl, inr, ⊎_elim, Bool, true, false, cond, ◌||◌, List, [], ◌∷◌, ◌++◌, refl, sym, ap, ap₂, ◌∙◌, arith}
+use Rattle.std.proofs.Common.{◌≡◌, ◌≢◌, ℕ, zero, suc, ◌+◌, ◌⊎◌, inl, inr, ⊎_elim, Bool, true, false, cond, ◌||◌, List, [], ◌∷◌, ◌++◌, refl, sym, ap, ap₂, ◌∙◌, arith}
 use Rattle.std.specs.Prelude.{ℤ, pos, negsuc, ◌+ℤ◌, ◌-ℤ◌, ◌*ℤ◌, neg_ℤ}
 use Rattle.std.specs.Int.{int_signum}
 use Rattle.std.specs.List.{AllByRecursion, count_by, flat_map}
+use Rattle.std.specs.List.Sorted.{IsPermutation}
 use Rattle.std.specs.Ordering.{int_eq}
 use Rattle.std.proofs.lemmas.Int.{ints}
+use Rattle.std.proofs.lemmas.List.Sorted.{IsPermutation-refl, length_permutation}
 use Rattle.ma_geom.specs.Coordinates.{Coordinates}
 use Rattle.ma_geom.specs.Lines.{is_flat}
 use Rattle.ma_geom.specs.Rational.{Rational, side}
@@ -13,15 +15,19 @@ use Rattle.ma_geom.proofs.Identities.{vol6_exchange_cd, vol6_turn_bcd}
 use Rattle.ma_geom.proofs.Ring.{var, con, neg, ◌⊕◌, ◌⊖◌, ◌⊗◌, entry, ring}
 use Rattle.ma_cells.specs.Faces.{faces_of}
 use Rattle.ma_cells.proofs.Choices.{all-append}
+use Rattle.ma_cells.proofs.Pieces.{four_corners, solid_corners}
 use Rattle.ma_cells.proofs.Passing.{all_weaker}
 use Rattle.ma_cover.specs.Inside.{are_alike, is_beside, is_inside}
+use Rattle.ma_cover.proofs.Exchanges.{inside_in_any_order}
 use Rattle.ma_cover.proofs.OffFaces.{all_four}
 use Rattle.mesh_laws.specs.FivePlaces.{enclosed}
 use Rattle.mesh_laws.specs.Points.{IsMovedOffFaces, IsOffPlane, IsMovedOffPlane}
 use Rattle.mesh_laws.proofs.FivePlaces.{five_places_cancel}
 pub use Rattle.mesh_laws.proofs.Lists.{all_parts, all_split}
+use Rattle.mesh_laws.proofs.Lists.{count-cons}
 use Rattle.mesh_laws.proofs.MovedOff.{covered_alike, covered_nowhere, move_off, point_or_not}
 use Rattle.mesh_laws.proofs.Weights.{alike_some, by_four, turned_a}
+use Rattle.cavity_laws.specs.Filled.{AreReordered, FillingKeepsCover}
 use Rattle.cavity_laws.specs.Cavity.{AreOnOneSide, CavityKeepsCover, Facet, IsCavity, balance, cone_of, cones, facets_of, side_number, total}
 pub use Rattle.cavity_laws.proofs.Totals.{sgn_alike, sgn_positive, sgn_turned}
 use Rattle.cavity_laws.proofs.Totals.{balanced_total, one_if, total-append, total-count_by, weighed}
@@ -151,18 +157,57 @@ module _ (q : Rational) (v : Coordinates) where
         counts : (m n : ℕ) (w : ℤ) {s t u : ℤ} → s ≡ t → t ≡ w +ℤ u → w ≡ pos 0 → s ≡ pos m → u ≡ pos n → n ≡ m
         counts m n w {s = s} {t = t} {u = u} e f g h k = omega (arith, ints)
 
+-- ---- corners in any order
+solid_moved : (s t : List Coordinates) → IsPermutation s t → is_flat s ≡ false → is_flat t ≡ false
+solid_moved s (a ∷ b ∷ c ∷ d ∷ []) moved h = some (vol6 a b c d) (solid_corners s a b c d moved h)
+  where
+    some : (x : ℤ) → x ≢ pos 0 → int_eq x (pos 0) ≡ false
+    some x h = grind (arith, ints)
+solid_moved s [] moved h = absurd (omega (arith, length_permutation s [] moved, four_corners s h))
+solid_moved s (a ∷ []) moved h = absurd (omega (arith, length_permutation s (a ∷ []) moved, four_corners s h))
+solid_moved s (a ∷ b ∷ []) moved h = absurd (omega (arith, length_permutation s (a ∷ b ∷ []) moved, four_corners s h))
+solid_moved s (a ∷ b ∷ c ∷ []) moved h = absurd (omega (arith, length_permutation s (a ∷ b ∷ c ∷ []) moved, four_corners s h))
+solid_moved s (a ∷ b ∷ c ∷ d ∷ e ∷ l) moved h = absurd (omega (arith, length_permutation s (a ∷ b ∷ c ∷ d ∷ e ∷ l) moved, four_corners s h))
+
+-- what holds of each of some tetrahedra in whatever order of its corners, holds of each of those that are reordered
+pub reordered : (P Q : List Coordinates → Type 0) → ((s t : List Coordinates) → IsPermutation s t → P s → Q t) → (ss ts : List (List Coordinates)) → AreReordered ss ts
+    → AllByRecursion P ss → AllByRecursion Q ts
+reordered P Q each [] [] h all = tt
+reordered P Q each [] (t ∷ ts) h all = absurd h
+reordered P Q each (s ∷ ss) [] h all = absurd h
+reordered P Q each (s ∷ ss) (t ∷ ts) h all = (each s t h.0 all.0, reordered P Q each ss ts h.1 all.1)
+
+reordered_count : (p : Rational) (ss ts : List (List Coordinates)) → AreReordered ss ts → count_by (is_inside p) ts ≡ count_by (is_inside p) ss
+reordered_count p [] [] h = refl
+reordered_count p [] (t ∷ ts) h = absurd h
+reordered_count p (s ∷ ss) [] h = absurd h
+reordered_count p (s ∷ ss) (t ∷ ts) h =
+    count-cons (is_inside p) t ts ∙ ap₂ (λ (b : Bool) (n : ℕ). cond b 1 0 + n) (inside_in_any_order p s t h.0) (reordered_count p ss ts h.1) ∙ sym (count-cons (is_inside p) s ss)
+
+reordered_itself : (ts : List (List Coordinates)) → AreReordered ts ts
+reordered_itself [] = tt
+reordered_itself (t ∷ ts) = (IsPermutation-refl t, reordered_itself ts)
+
 -- ---- at each point
-pub cavity_keeps_cover : CavityKeepsCover
-cavity_keeps_cover p v inner tets cavity off off_cones =
+pub filling_keeps_cover : FillingKeepsCover
+filling_keeps_cover p v inner tets filling cavity same off off_filling =
     ⊎_elim (λ is_point.
-    let near = move_off it p is_point (tets ++ cones v inner tets) (flat_map (λ corners. faces_of (v ∷ corners)) tets)
-    (all-append (λ corners. is_flat corners ≡ false) tets (cones v inner tets) cavity.solid (cones_solid v inner (flat_map facets_of tets))) in
-    let moved = all_split (λ corners. IsMovedOffFaces p near.0 corners) tets (cones v inner tets) near.2 in
-    sym (covered_alike it any p near.0 (cones v inner tets) off_cones moved.1) ∙ off_planes near.0 v inner tets cavity (all_weaker (IsMovedOffPlane p near.0) (IsOffPlane near.0) (λ triangle m. m.off) (flat_map (λ corners. faces_of (v ∷ corners)) tets) near.3) ∙ covered_alike it any p near.0 tets off moved.0)
-    (λ no_point. covered_nowhere it any p no_point (cones v inner tets) ∙ sym (covered_nowhere it any p no_point tets)) (point_or_not p)
+    let triangles = flat_map (λ corners. faces_of (v ∷ corners)) tets in
+    let solid = reordered (λ c. is_flat c ≡ false) (λ c. is_flat c ≡ false) solid_moved (cones v inner tets) filling same (cones_solid v inner (flat_map facets_of tets)) in
+    let near = move_off it p is_point (tets ++ filling) triangles (all-append (λ corners. is_flat corners ≡ false) tets filling cavity.solid solid) in
+    let q = near.0 in
+    let moved = all_split (λ corners. IsMovedOffFaces p q corners) tets filling near.2 in
+    sym (covered_alike it any p q filling off_filling moved.1)
+    ∙ reordered_count q (cones v inner tets) filling same
+    ∙ off_planes q v inner tets cavity (all_weaker (IsMovedOffPlane p q) (IsOffPlane q) (λ triangle m. m.off) triangles near.3)
+    ∙ covered_alike it any p q tets off moved.0)
+    (λ no_point. covered_nowhere it any p no_point filling ∙ sym (covered_nowhere it any p no_point tets)) (point_or_not p)
   where
     it : List Coordinates → List Coordinates
     it corners = corners
 
     any : List Coordinates → Bool
     any _ = true
+
+pub cavity_keeps_cover : CavityKeepsCover
+cavity_keeps_cover p v inner tets cavity = filling_keeps_cover p v inner tets (cones v inner tets) cavity (reordered_itself (cones v inner tets))

@@ -1,1 +1,5 @@
 pub mod Cavity
+pub mod Filled
+pub mod Parity
+pub mod Balance
+pub mod Swap
