@@ -1,2 +1,5 @@
 pub mod Totals
 pub mod Cavities
+pub mod Balance
+pub mod Parity
+pub mod Swaps

@@ -1,5 +1,5 @@
 -- Sums of whole numbers over facets, in which what a balanced face has cancels.
-use Rattle.std.proofs.Common.{◌≡◌, ℕ, zero, suc, ◌+◌, min, ◌⊎◌, inl, inr, ⊎_elim, Bool, true, false, cond, List, [], ◌∷◌, ◌++◌, refl, sym, ap, ap₂, ◌∙◌, arith}
+use Rattle.std.proofs.Common.{◌≡◌, ◌≢◌, ℕ, zero, suc, ◌+◌, min, ◌⊎◌, inl, inr, ⊎_elim, Bool, true, false, cond, List, [], ◌∷◌, ◌++◌, refl, sym, ap, ap₂, ◌∙◌, arith}
 use Rattle.std.specs.Prelude.{ℤ, pos, negsuc, ◌+ℤ◌, ◌*ℤ◌, ◌<ℤ◌, neg_ℤ}
 use Rattle.std.specs.Int.{int_signum}
 use Rattle.std.specs.List.{count_by}
@@ -19,6 +19,11 @@ sgn_positive n = ap pos (by n)
   where
     by : (n : ℕ) → min (suc n) 1 ≡ 1
     by n = omega arith
+
+pub sgn_some : (x : ℤ) → x ≢ pos 0 → (int_signum x ≡ pos 1) ⊎ (int_signum x ≡ negsuc 0)
+sgn_some (pos zero) h = absurd (h refl)
+sgn_some (pos (suc n)) h = inl (sgn_positive n)
+sgn_some (negsuc n) h = inr refl
 
 pub sgn_turned : (x y : ℤ) → x ≡ neg_ℤ y → int_signum x ≡ neg_ℤ (int_signum y)
 sgn_turned x y e = ap int_signum e ∙ by y
