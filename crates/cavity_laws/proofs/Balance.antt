@@ -1,8 +1,7 @@
 -- A face is balanced where two tetrahedra have it, on both sides of it.
-use Rattle.std.proofs.Common.{◌≡◌, ◌≢◌, ◌⊎◌, inl, inr, ℕ, ◌+◌, ◌≤◌, Bool, true, false, cond, ◌||◌, List, [], ◌∷◌, ◌++◌, filter, length, refl, sym, ap, ap₂, subst, ◌∙◌, arith}
+use Rattle.std.proofs.Common.{◌≡◌, ◌≢◌, ◌⊎◌, inl, inr, ◌≤◌, Bool, true, false, cond, ◌||◌, List, [], ◌∷◌, ◌++◌, filter, length, refl, sym, ap, ap₂, subst, ◌∙◌, arith}
 use Rattle.std.specs.Prelude.{ℤ, pos, negsuc, ◌+ℤ◌, neg_ℤ, map}
 use Rattle.std.specs.Cmp.Lexicographic.{slice_cmp}
-use Rattle.std.specs.Int.{int_signum}
 use Rattle.std.specs.List.{AllByRecursion, flat_map}
 use Rattle.std.specs.List.Sorted.{IsPermutation}
 use Rattle.std.proofs.lemmas.Bool.{or_parts, true≢false}
@@ -20,7 +19,7 @@ use Rattle.ma_cover.specs.Sound.{LieOnBothSides}
 use Rattle.mesh_laws.proofs.BothSides.{Pairs, pairs_from}
 use Rattle.mesh_laws.proofs.Listings.{faces_distinct, same, same_is}
 use Rattle.mesh_laws.proofs.Weights.{by_four, some_a, some_b, some_c}
-use Rattle.cavity_laws.specs.Balance.{FacesAreBalanced, had_by}
+use Rattle.cavity_laws.specs.Balance.{FacesAreBalanced}
 use Rattle.cavity_laws.specs.Cavity.{Facet, balance, facets_of, side_number, total}
 use Rattle.cavity_laws.proofs.Totals.{sgn_alike, sgn_some, sgn_turned, total-append}
 
@@ -75,7 +74,7 @@ one_has P face (x ∷ facets) distinct all there =
           all.0,
           is,
           ap (λ b. cond b (side_number x.face x.across) (pos 0) +ℤ balance face facets) e
-          ∙ right (side_number x.face x.across) (balance face facets) (none_has face facets (subst (λ f. has (slice_cmp place_cmp) f (map (λ y. y.face) facets) ≡ false) (sym is) alone)),
+              ∙ right (side_number x.face x.across) (balance face facets) (none_has face facets (subst (λ f. has (slice_cmp place_cmp) f (map (λ y. y.face) facets) ≡ false) (sym is) alone)),
         )
     by alone rest false e h =
         let one = rest h in
@@ -101,7 +100,7 @@ module _ (face : List Coordinates) where
   has_it corners solid there =
       let faces = faces_are corners solid in
       let one = one_has (IsFacetOf corners) face (facets_of corners) (ap (are_distinct (slice_cmp place_cmp)) faces ∙ faces_distinct corners solid) (facets_are corners solid)
-          (ap (has (slice_cmp place_cmp) face) faces ∙ there) in
+      (ap (has (slice_cmp place_cmp) face) faces ∙ there) in
       record {
         across = one.0.across;
         order = subst (λ f. IsPermutation (f ++ one.0.across ∷ []) corners) (sym one.2) one.1.0;

@@ -3,3 +3,4 @@ pub mod Cavities
 pub mod Balance
 pub mod Parity
 pub mod Swaps
+pub mod Examples

@@ -1,5 +1,5 @@
 -- A swap is a cavity filled.
-use Rattle.std.proofs.Common.{◌≡◌, ◌≢◌, ℕ, Bool, true, false, cond, ◌||◌, List, [], ◌∷◌, ◌++◌, refl, sym, ap, ap₂, subst, ◌∙◌, arith}
+use Rattle.std.proofs.Common.{◌≡◌, ◌≢◌, ℕ, Bool, true, false, ◌||◌, List, [], ◌∷◌, ◌++◌, refl, sym, ap, ap₂, subst, ◌∙◌, arith}
 use Rattle.std.specs.Prelude.{ℤ, pos, neg_ℤ}
 use Rattle.std.specs.List.{AllByRecursion, flat_map}
 use Rattle.std.specs.Ordering.{eq_by_cmp, int_eq}
@@ -9,16 +9,13 @@ use Rattle.ma_geom.specs.Coordinates.{Coordinates, place_cmp}
 use Rattle.ma_geom.specs.Lines.{is_flat}
 use Rattle.ma_geom.specs.Volume.{vol6}
 use Rattle.ma_geom.proofs.Identities.{vol6_same_ab, vol6_same_ac, vol6_same_ad}
-use Rattle.ma_cells.specs.Ascending.{ascending_of, has}
-use Rattle.ma_cells.specs.Faces.{faces_of}
-use Rattle.ma_cells.proofs.Corners.{sorted_corners}
+use Rattle.ma_cells.specs.Ascending.{has}
 use Rattle.ma_cells.proofs.Permutations.{same as same_place}
 use Rattle.mesh_laws.specs.Parity.{is_odd, listings}
 use Rattle.mesh_laws.proofs.Weights.{alike_some, turned_a}
 use Rattle.cavity_laws.specs.Balance.{had_by}
 use Rattle.cavity_laws.specs.Cavity.{AreOnOneSide, Facet, IsCavity, cone_of, cones, facets_of}
-use Rattle.cavity_laws.specs.Filled.{AreReordered}
-use Rattle.cavity_laws.specs.Parity.{any_cone_of, any_cones, sorted_faces}
+use Rattle.cavity_laws.specs.Parity.{any_cone_of, sorted_faces}
 use Rattle.cavity_laws.specs.Swap.{IsSwappable, SwapKeepsCover, SwapKeepsParity, is_between}
 use Rattle.cavity_laws.proofs.Balance.{faces_are_balanced}
 use Rattle.cavity_laws.proofs.Cavities.{cones_solid, filling_keeps_cover}
