@@ -1,0 +1,4 @@
+pub mod Collapsing
+pub mod Curves
+pub mod Surfaces
+pub mod Judging
