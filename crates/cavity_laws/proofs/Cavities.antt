@@ -158,7 +158,7 @@ module _ (q : Rational) (v : Coordinates) where
         counts m n w {s = s} {t = t} {u = u} e f g h k = omega (arith, ints)
 
 -- ---- corners in any order
-solid_moved : (s t : List Coordinates) → IsPermutation s t → is_flat s ≡ false → is_flat t ≡ false
+pub solid_moved : (s t : List Coordinates) → IsPermutation s t → is_flat s ≡ false → is_flat t ≡ false
 solid_moved s (a ∷ b ∷ c ∷ d ∷ []) moved h = some (vol6 a b c d) (solid_corners s a b c d moved h)
   where
     some : (x : ℤ) → x ≢ pos 0 → int_eq x (pos 0) ≡ false

@@ -46,7 +46,7 @@ odd_twice m k n e = ap is_odd e ∙ odd-+ n (k + k) ∙ ap (xor (is_odd n)) (odd
     itself true = refl
     itself false = refl
 
-odd-map : {X Y : Type 0} (f : Y → Bool) (h : X → Y) (xs : List X) → odd_of f (map h xs) ≡ odd_of (λ x. f (h x)) xs
+pub odd-map : {X Y : Type 0} (f : Y → Bool) (h : X → Y) (xs : List X) → odd_of f (map h xs) ≡ odd_of (λ x. f (h x)) xs
 odd-map f h [] = refl
 odd-map f h (x ∷ xs) = ap (xor (f (h x))) (odd-map f h xs)
 
