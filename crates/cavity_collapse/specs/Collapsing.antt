@@ -16,9 +16,13 @@ is_same p q = eq_by_cmp place_cmp p q
 abbrev pub collapsed : (a v : Coordinates) → List Tetrahedron → List Tetrahedron
 collapsed a v star = ascending_of tet_cmp (flat_map (λ tet. cone v tet.phys tet.elem (besides (a ∷ []) tet.corners)) star)
 
+-- v in the place of a, in the order of the list
+abbrev pub moved_corners : (a v : Coordinates) → List Coordinates → List Coordinates
+moved_corners a v corners = map (λ p. if is_same p a then v else p) corners
+
 -- a mark with v in the place of a: nothing if it holds both, and the mark as it is without a
 abbrev pub moved_mark : (a v : Coordinates) → CellMark → List CellMark
-moved_mark a v mark = option_to_list (mark_on (map (λ p. if is_same p a then v else p) (corners_of mark.cell)) mark.phys mark.elem)
+moved_mark a v mark = option_to_list (mark_on (moved_corners a v (corners_of mark.cell)) mark.phys mark.elem)
 
 abbrev pub moved_marks : (a v : Coordinates) → List CellMark → List CellMark
 moved_marks a v marks = ascending_of mark_cmp (flat_map (moved_mark a v) marks)

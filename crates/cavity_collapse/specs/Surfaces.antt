@@ -8,7 +8,6 @@ use Rattle.ma_geom.specs.Turns.{same_turn}
 use Rattle.ma_cells.specs.Ascending.{has}
 use Rattle.ma_cells.specs.Cells.{CellMark, corners_of}
 use Rattle.ma_cells.specs.Faces.{holds_all}
-use Rattle.ma_cells.specs.Stars.{besides}
 use Rattle.ma_cells.specs.declared.cell.Cell.{Cell}
 use Rattle.ma_cells.specs.declared.cell.Cell.TheVariants.{Tri}
 use Rattle.cavity_collapse.specs.Collapsing.{is_same}
@@ -72,4 +71,4 @@ surfaces_are_kept marks a v =
 -- a marked triangle at a without v turns the same way once a is at v
 abbrev pub turns_are_kept : List CellMark → (a v : Coordinates) → Bool
 turns_are_kept marks a v =
-    list_all (λ m. not (is_triangle_at a m.cell) || (has place_cmp v (corners_of m.cell) || same_turn (a ∷ besides (a ∷ []) (corners_of m.cell)) (v ∷ besides (a ∷ []) (corners_of m.cell)))) marks
+    list_all (λ m. list_all (λ rim. has place_cmp v (rim.0 ∷ rim.1 ∷ []) || same_turn (a ∷ rim.0 ∷ rim.1 ∷ []) (v ∷ rim.0 ∷ rim.1 ∷ [])) (option_to_list (across a m.cell))) marks

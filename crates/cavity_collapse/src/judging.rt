@@ -1,0 +1,113 @@
+// Whether a collapse is legal.
+ghost use Rattle.std.specs.Prelude.{◌≡◌, ◌∷◌, [], Ok};
+ghost use Rattle.ma_cells.specs.Worst.{worst};
+ghost use Rattle.cavity_rank.specs.Verdicts.{first_failing, verdict_of};
+ghost use Rattle.cavity_collapse.specs.Curves.{curves_are_kept, is_free_point};
+ghost use Rattle.cavity_collapse.specs.Judging.{edges_stay_short, faces_are_seen, is_short_edge, judged_collapse, legal_quality, quality_is_kept};
+ghost use Rattle.cavity_collapse.specs.Surfaces.{planes_are_kept, surfaces_are_kept, turns_are_kept};
+
+use crate::curves::{curves_are_kept, is_free_point};
+use crate::filling::{new_worst, worst};
+use crate::stars::{edges_stay_short, faces_are_seen, is_short_edge};
+use crate::surfaces::{planes_are_kept, surfaces_are_kept, turns_are_kept};
+use cavity_rank::Verdict;
+use ma_cells::{Mark, Tet};
+use ma_geom::{Memory, Place};
+use size_marks::SizeField;
+
+/// The number of the first test that fails, of all but that of quality.
+fn failing(star: &[Tet], marks: &[Mark], a: Place, v: Place, field: &SizeField) -> Option<u8>
+    ensures { result ≡ first_failing 1 (is_short_edge field.now star.now a v ∷ is_free_point marks.now a ∷ curves_are_kept marks.now a v ∷ planes_are_kept marks.now a v ∷ surfaces_are_kept marks.now a v ∷ turns_are_kept marks.now a v ∷ faces_are_seen star.now a v ∷ edges_stay_short field.now star.now a v ∷ []) }
+{
+    if !is_short_edge(field, star, a, v) {
+        Some(1)
+    } else if !is_free_point(marks, a) {
+        Some(2)
+    } else if !curves_are_kept(marks, a, v) {
+        Some(3)
+    } else if !planes_are_kept(marks, a, v) {
+        Some(4)
+    } else if !surfaces_are_kept(marks, a, v) {
+        Some(5)
+    } else if !turns_are_kept(marks, a, v) {
+        Some(6)
+    } else if !faces_are_seen(star, a, v) {
+        Some(7)
+    } else if !edges_stay_short(field, star, a, v) {
+        Some(8)
+    } else {
+        None
+    }
+}
+
+fn by_quality(old: u32, new: u32) -> Verdict
+    ensures { result ≡ verdict_of new (first_failing 9 (quality_is_kept old new ∷ [])) }
+{
+    if old <= new || 1 << 24 <= new {
+        Verdict::Legal { worst: new }
+    } else {
+        Verdict::Illegal(9)
+    }
+}
+
+/// The verdict on a collapse of `a` to `v`, with the least quality of its star. Takes no memory.
+pub fn judge_with(
+    star: &[Tet],
+    marks: &[Mark],
+    a: Place,
+    v: Place,
+    field: &SizeField,
+    old: u32,
+) -> Verdict
+    requires { old ≡ worst star.now }
+    ensures { result ≡ judged_collapse field.now star.now marks.now a v }
+{
+    match failing(star, marks, a, v, field) {
+        Some(number) => Verdict::Illegal(number),
+        None => by_quality(old, new_worst(star, a, v)),
+    }
+}
+
+/// The verdict on a collapse of `a` to `v`: the number of the first of nine tests that fails, or the
+/// least quality of the new tetrahedra. `star` is to have all tetrahedra that have the corner `a`,
+/// and `marks` all marks at `a`; other marks change nothing. Answers always, and takes no memory.
+///
+/// The tests are: 1, `a` and `v` are the ends of a short edge; 2, no point is marked at `a`; 3, the
+/// segments at `a` run straight through to `v`, for each tag; 4, `v` lies in the plane of each
+/// triangle at `a`; 5, the triangles of each tag and plane have no rim at `a` but along the line to
+/// `v`; 6, each triangle without `v` keeps its turn; 7, `v` lies on the side of `a` of each face
+/// across from `a`; 8, no edge of a new tetrahedron is long from `v`; 9, the least quality doesn't
+/// fall, or not below 2^24. After the collapses of MeshAdapt (Li, Shephard and Beall 2005).
+pub fn judge(
+    star: &[Tet],
+    marks: &[Mark],
+    a: Place,
+    v: Place,
+    field: &SizeField,
+) -> Result<Verdict, Memory>
+    ensures { result ≡ Ok (judged_collapse field.now star.now marks.now a v) }
+{
+    match failing(star, marks, a, v, field) {
+        Some(number) => Ok(Verdict::Illegal(number)),
+        None => Ok(by_quality(worst(star), new_worst(star, a, v))),
+    }
+}
+
+/// The least quality of the new tetrahedra, where a collapse of `a` to `v` is legal, with the least
+/// quality of its star. Takes no memory.
+pub fn legal_with(
+    star: &[Tet],
+    marks: &[Mark],
+    a: Place,
+    v: Place,
+    field: &SizeField,
+    old: u32,
+) -> Option<u32>
+    requires { old ≡ worst star.now }
+    ensures { result ≡ legal_quality (judged_collapse field.now star.now marks.now a v) }
+{
+    match judge_with(star, marks, a, v, field, old) {
+        Verdict::Legal { worst } => Some(worst),
+        Verdict::Illegal(_) => None,
+    }
+}
