@@ -1,10 +1,10 @@
 -- A legal collapse keeps a mesh sound, and its cover.
-use Rattle.std.proofs.Common.{◌≡◌, ℕ, zero, suc, Bool, true, false, cond, not, ◌&&◌, ◌||◌, List, [], ◌∷◌, ◌++◌, filter, length, ◌==◌, refl, sym, ap, subst, ◌∙◌, arith}
+use Rattle.std.proofs.Common.{◌≡◌, ℕ, zero, suc, Bool, true, false, cond, not, ◌||◌, List, [], ◌∷◌, ◌++◌, filter, length, ◌==◌, refl, sym, ap, subst, ◌∙◌, arith}
 use Rattle.std.specs.Prelude.{ℤ, pos, negsuc, neg_ℤ}
 use Rattle.std.specs.declared.cmp.Ordering.{Ordering}
 use Rattle.std.specs.List.{AllByRecursion, flat_map}
 use Rattle.std.specs.Ordering.{int_eq}
-use Rattle.std.proofs.lemmas.Bool.{and_parts, eqb-true, false≢true}
+use Rattle.std.proofs.lemmas.Bool.{and_parts, eqb-true, false≢true, not-true}
 use Rattle.std.proofs.lemmas.Int.{ints}
 use Rattle.std.proofs.lemmas.List.Sorted.{IsPermutation-append_right, IsPermutation-sym, sum_by-IsPermutation}
 use Rattle.ma_geom.specs.Coordinates.{Coordinates, place_cmp}
@@ -43,7 +43,7 @@ use Rattle.cavity_collapse.specs.Judging.{collapse_tests, faces_are_seen, judged
 use Rattle.cavity_collapse.specs.Surfaces.{is_triangle_at, lies_in_plane, planes_are_kept}
 use Rattle.collapse_laws.specs.Collapses.{LegalCollapseKeepsMesh}
 use Rattle.collapse_laws.proofs.Cover.{after, after_covers_the_same, fills_are, rest_of}
-use Rattle.collapse_laws.proofs.Filling.{CanCollapse, fill}
+use Rattle.collapse_laws.proofs.Filling.{CanCollapse, and_true, fill}
 use Rattle.collapse_laws.proofs.Marks.{moved_cells}
 use Rattle.collapse_laws.proofs.Odd.{after_solid, odd_are_marked}
 use Rattle.collapse_laws.proofs.OnCells.{any_gives, moved_are_on, self_sided}
@@ -66,10 +66,6 @@ from_filter P p (x ∷ xs) h =
       | true ↦ λ e k. ((λ _. k.0), from_filter P p xs k.1)
       | false ↦ λ e k. ((λ f. absurd (false≢true (sym e ∙ f))), from_filter P p xs k)
     ] refl h
-
-and_true : (b : Bool) → (b && true) ≡ b
-and_true true = refl
-and_true false = refl
 
 -- places with one sign, of which one isn't in the plane, are on one side
 alike_signs : (x y : ℤ) → are_alike x x ≡ true → same_sign (sign_of y) (sign_of x) ≡ true → are_alike x y ≡ true
@@ -122,10 +118,6 @@ can_collapse : (field : Field) (mesh : Batch) (a v : Coordinates) (worst : ℕ) 
     → judged_collapse field (star_of (a ∷ []) mesh.tets) (marks_at (a ∷ []) mesh.marks) a v ≡ Legal worst → CanCollapse a v mesh.tets mesh.marks
 can_collapse field mesh a v worst sound legal = by (all_true 1 _ worst (collapse_tests field (star_of (a ∷ []) mesh.tets) (marks_at (a ∷ []) mesh.marks) a v) legal)
   where
-    turned : (b : Bool) → not b ≡ true → b ≡ false
-    turned true h = absurd (false≢true h)
-    turned false h = refl
-
     or_second : (b c : Bool) → b ≡ false → (b || c) ≡ true → c ≡ true
     or_second true c e h = absurd (false≢true (sym e))
     or_second false c e h = h
@@ -157,7 +149,7 @@ can_collapse field mesh a v worst sound legal = by (all_true 1 _ worst (collapse
 
     by : AllByRecursion (λ t. t ≡ true) (collapse_tests field (star_of (a ∷ []) mesh.tets) (marks_at (a ∷ []) mesh.marks) a v) → CanCollapse a v mesh.tets mesh.marks
     by (short, (point, (curves, (planes, (surfaces, (turns, (seen, _))))))) = record {
-      differ = λ e. false≢true (sym (turned (is_same a v) (and_parts (not (is_same a v)) _ short).0) ∙ subst (λ p. is_same a p ≡ true) e (tied a));
+      differ = λ e. false≢true (sym (not-true (is_same a v) (and_parts (not (is_same a v)) _ short).0) ∙ subst (λ p. is_same a p ≡ true) e (tied a));
       planes = in_planes planes;
       seen = on_sides seen;
     }

@@ -99,7 +99,7 @@ module _ (a v : Coordinates) (tets : List Tetrahedron) (marks : List CellMark) (
       (here_is_cavity a v tets marks solid conforming can phys elem) (cones_reordered a v tets marks solid conforming can mine (here_at a v tets marks solid conforming can phys elem)) off_mine off_filling in
       by (count_by k (after a v tets)) (count_by k (rest_of a tets)) (count_by k (flat_map (fill a v) star)) (count_by k star) (count_by k tets)
       (sum_by-append (λ tet. cond (k tet) 1 0) (rest_of a tets) (flat_map (fill a v) star)) (filled ∙ law ∙ was)
-      (sum_by-filter_both (λ tet. holds_all tet.corners (a ∷ [])) (λ tet. not (holds_all tet.corners (a ∷ []))) (λ tet. refl) (λ tet. cond (k tet) 1 0) tets)
+      (sum_by-filter_both (λ tet. holds_all tet.corners (a ∷ [])) (λ tet. not (holds_all tet.corners (a ∷ []))) (λ tet. refl {a = not (holds_all tet.corners (a ∷ []))}) (λ tet. cond (k tet) 1 0) tets)
     where
       by : (s r l t n : ℕ) → s ≡ r + l → l ≡ t → t + r ≡ n → s ≡ n
       by s r l t n e f g = omega arith

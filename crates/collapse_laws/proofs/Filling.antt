@@ -83,7 +83,7 @@ pairs_map : (tets : List Tetrahedron) → Pairs (BothSides corners_of) tets → 
 pairs_map [] h = tt
 pairs_map (tet ∷ tets) h = (all-map (BothSides corners_of tet) (LieOnBothSides tet.corners) corners_of (λ t k. k) tets h.0, pairs_map tets h.1)
 
-and_true : (b : Bool) → (b && true) ≡ b
+pub and_true : (b : Bool) → (b && true) ≡ b
 and_true true = refl
 and_true false = refl
 

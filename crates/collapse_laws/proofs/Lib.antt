@@ -5,3 +5,4 @@ pub mod Marks
 pub mod OnCells
 pub mod Odd
 pub mod Collapses
+pub mod Examples

@@ -4,7 +4,7 @@ use Rattle.std.specs.Prelude.{ℤ, map}
 use Rattle.std.specs.List.{AllByRecursion, flat_map}
 use Rattle.std.specs.List.Sorted.{IsPermutation}
 use Rattle.std.specs.Ordering.{eq_by_cmp}
-use Rattle.std.proofs.lemmas.Bool.{and_parts, false≢true, false_from_ne_true, or_parts}
+use Rattle.std.proofs.lemmas.Bool.{and_parts, false_from_ne_true, false≢true, not-true, or_parts}
 use Rattle.std.proofs.lemmas.List.Sorted.{IsPermutation-append_comm, IsPermutation-append_left, IsPermutation-refl, IsPermutation-trans}
 use Rattle.ma_geom.specs.Coordinates.{Coordinates, place_cmp}
 use Rattle.ma_geom.specs.Lines.{is_flat}
@@ -178,13 +178,9 @@ module _ (a v : Coordinates) (tets : List Tetrahedron) (marks : List CellMark) (
         let parts = and_parts (not (has place_cmp a x.face && not (is_marked marks x.face)) && (not (has place_cmp v x.face) && is_flat (v ∷ x.face))) _ h in
         let tests = and_parts (not (has place_cmp a x.face && not (is_marked marks x.face))) (not (has place_cmp v x.face) && is_flat (v ∷ x.face)) parts.0 in
         let two = and_parts (not (has place_cmp v x.face)) (is_flat (v ∷ x.face)) tests.1 in
-        by x (has place_cmp a x.face) refl is three (turned (has place_cmp v x.face) two.0) two.1 (is_marked marks x.face) refl tests.0 parts.1 none)
+        by x (has place_cmp a x.face) refl is three (not-true (has place_cmp v x.face) two.0) two.1 (is_marked marks x.face) refl tests.0 parts.1 none)
         (facets_of tet.corners) (split a tet.corners at.proper at.corner).each (by_four (λ c. AllByRecursion (λ x. length x.face ≡ 3) (facets_of c)) (λ w x y z _. (refl, (refl, (refl, (refl, tt))))) tet.corners at.proper)
       where
-        turned : (b : Bool) → not b ≡ true → b ≡ false
-        turned true h = absurd (false≢true h)
-        turned false h = refl
-
         of_three : (f : List Coordinates) → length f ≡ 3 → has place_cmp a f ≡ true → has place_cmp v f ≡ false → is_marked marks f ≡ true
             → odd_of (λ c. same face (ascending_of place_cmp c)) (faces_of (v ∷ f)) ≡ true → has place_cmp a face ≡ false → is_marked (moved_marks a v marks) face ≡ true
         of_three (p ∷ q ∷ r ∷ []) three at_a off marked odd none =

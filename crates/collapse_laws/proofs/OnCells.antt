@@ -5,7 +5,7 @@ use Rattle.std.specs.Cmp.Lexicographic.{slice_cmp}
 use Rattle.std.specs.List.{AllByRecursion, count_by, flat_map, list_all, list_any}
 use Rattle.std.specs.List.Sorted.{IsPermutation}
 use Rattle.std.specs.Ordering.{eq_by_cmp, int_eq}
-use Rattle.std.proofs.lemmas.Bool.{and_parts, false≢true, or_parts, or_right, true_from_ne_false}
+use Rattle.std.proofs.lemmas.Bool.{and_parts, false≢true, not-true, or_parts, or_right, true_from_ne_false}
 use Rattle.std.proofs.lemmas.Int.{ints}
 use Rattle.std.proofs.lemmas.List.Folds.{list_any-append}
 use Rattle.std.proofs.lemmas.List.Kept.{AllPairs-filter}
@@ -37,7 +37,7 @@ use Rattle.cavity_laws.specs.Cavity.{AreOnOneSide, Facet, facets_of}
 use Rattle.cavity_laws.proofs.Swaps.{not_flat_over}
 use Rattle.cavity_collapse.specs.Collapsing.{moved_mark, moved_marks}
 use Rattle.collapse_laws.proofs.Cover.{after, has_face, rest_of}
-use Rattle.collapse_laws.proofs.Filling.{CanCollapse, IsAt, face_corner, fill, filter_passes, is_of}
+use Rattle.collapse_laws.proofs.Filling.{CanCollapse, IsAt, and_true, face_corner, fill, filter_passes, is_of}
 use Rattle.collapse_laws.proofs.Marks.{any_given, moved_corners, to_v}
 use Rattle.collapse_laws.proofs.Stars.{IsSplit, opposite, sorted_flat, split}
 
@@ -268,10 +268,6 @@ module _ (a v : Coordinates) (tets : List Tetrahedron) (marks : List CellMark) (
       all_two (λ tet. is_flat tet.corners ≡ false) (λ tet. has place_cmp a tet.corners ≡ true → has place_cmp v tet.corners ≡ false → AreOnOneSide (besides (a ∷ []) tet.corners) a v)
       (λ tet. has place_cmp a tet.corners ≡ true → At tet) (λ tet s k h. record { proper = s; corner = h; seen = k h }) tets solid can.seen
 
-  and_true : (b : Bool) → (b && true) ≡ b
-  and_true true = refl
-  and_true false = refl
-
   module _ (places : List Coordinates) where
     -- what is so of a tetrahedron of the mesh
     record IsOne (tet : Tetrahedron) : Type 0 where
@@ -322,17 +318,13 @@ module _ (a v : Coordinates) (tets : List Tetrahedron) (marks : List CellMark) (
             face : List Coordinates
             face = besides (v ∷ []) tet.corners
 
-            turned : (b : Bool) → not b ≡ true → b ≡ false
-            turned true k = absurd (false≢true k)
-            turned false k = refl
-
             takes : (t : Tetrahedron) → IsOne t → ((is_of tet.phys tet.elem t && has_face face t) && not (has place_cmp v t.corners)) ≡ true → Found places
             takes t one k =
                 let parts = and_parts (is_of tet.phys tet.elem t && has_face face t) (not (has place_cmp v t.corners)) k in
                 let has_it = (and_parts (is_of tet.phys tet.elem t) (has_face face t) parts.0).1 in
                 let at_t = face_corner a t.corners face one.proper has_it (a_on tet is.proper (held e) at_v is.one) in
                 one.comes_of (one.at at_t) (and_true (has place_cmp a t.corners) ∙ at_t)
-                (filled_there places t (one.at at_t) (turned (has place_cmp v t.corners) parts.1)
+                (filled_there places t (one.at at_t) (not-true (has place_cmp v t.corners) parts.1)
                 (all_weaker (λ p. has place_cmp p tet.corners ≡ true) (λ p. eq_by_cmp place_cmp p a ≡ false → eq_by_cmp place_cmp p v ≡ false → has place_cmp p t.corners ≡ true)
                 (λ p here _ off. face_corner p t.corners face one.proper has_it
                 (has-filter place_cmp-IsAntisymmetric (λ q. not (has place_cmp q (v ∷ []))) p tet.corners ∙ ap₂ (λ s t. s && not (t || false)) here off)) places each))
