@@ -1,13 +1,17 @@
 -- Premises of the laws that are met: a ring of three tetrahedra at an edge that is swapped, and an edge whose middle goes to one of its ends.
 use Rattle.std.proofs.Common.{◌≡◌, ℕ, Bool, true, false, List, [], ◌∷◌, refl, subst, arith}
-use Rattle.std.specs.Prelude.{ℤ, pos, neg_ℤ}
+use Rattle.std.specs.Prelude.{ℤ, pos, neg_ℤ, map}
 use Rattle.std.specs.List.{AllByRecursion, flat_map}
 use Rattle.std.proofs.lemmas.Bool.{true≢false}
 use Rattle.std.proofs.lemmas.Int.{ints}
+use Rattle.std.proofs.lemmas.List.Sorted.{IsPermutation-append_comm, IsPermutation-append_left, IsPermutation-refl}
 use Rattle.ma_geom.specs.Coordinates.{Coordinates}
 use Rattle.ma_geom.specs.Lines.{is_flat}
 use Rattle.ma_geom.specs.Rational.{Rational, side}
 use Rattle.ma_geom.specs.Volume.{vol6}
+use Rattle.ma_cells.specs.Cells.{CellMark}
+use Rattle.ma_cells.specs.Tetrahedron.{Tetrahedron}
+use Rattle.ma_cells.specs.declared.cell.Cell.TheVariants.{Tri}
 use Rattle.ma_cover.specs.Inside.{are_alike, is_beside, is_inside}
 use Rattle.ma_cover.specs.Sound.{LieOnBothSides}
 use Rattle.ma_cover.proofs.OffFaces.{all_four}
@@ -16,7 +20,9 @@ use Rattle.mesh_laws.proofs.Listings.{same, same_is}
 use Rattle.cavity_laws.specs.Balance.{had_by}
 use Rattle.cavity_laws.specs.Cavity.{IsCavity, balance, cones, facets_of}
 use Rattle.cavity_laws.specs.Parity.{any_cones}
+use Rattle.cavity_laws.specs.Replaced.{CanReplace}
 use Rattle.cavity_laws.specs.Swap.{IsSwappable, is_between}
+use Rattle.cavity_laws.proofs.Replaced.{swap_can_replace}
 
 abbrev at : ℕ → ℕ → ℕ → Coordinates
 at x y z = record { x = pos x; y = pos y; z = pos z }
@@ -100,6 +106,23 @@ ring_becomes = refl
 -- two of the ring have a face at the edge, one has an outer one
 pub ring_faces : (had_by (a ∷ s ∷ b ∷ []) ring ≡ 2) × (had_by (a ∷ s ∷ r ∷ []) ring ≡ 1)
 ring_faces = (refl, refl)
+
+-- they can stand in its place in any mesh whose marks are on the outer faces of the ring
+abbrev tet : List Coordinates → Tetrahedron
+tet corners = record { corners = corners; phys = pos 1; elem = pos 1 }
+
+abbrev ring_marks : List CellMark
+ring_marks =
+    map (λ face. record { cell = Tri face; phys = pos 2; elem = pos 7 })
+    ((a ∷ s ∷ r ∷ []) ∷ (s ∷ r ∷ b ∷ []) ∷ (a ∷ t ∷ s ∷ []) ∷ (t ∷ s ∷ b ∷ []) ∷ (a ∷ t ∷ r ∷ []) ∷ (t ∷ r ∷ b ∷ []) ∷ [])
+
+pub ring_can_be_replaced : CanReplace (map tet ring) (tet (a ∷ t ∷ s ∷ r ∷ []) ∷ tet (t ∷ s ∷ r ∷ b ∷ []) ∷ []) ring_marks
+unfolding vol6
+ring_can_be_replaced =
+    swap_can_replace t (pos 1) (pos 1) (map tet ring) (tet (a ∷ t ∷ s ∷ r ∷ []) ∷ tet (t ∷ s ∷ r ∷ b ∷ []) ∷ []) ring_marks
+    ((refl, refl), ((refl, refl), ((refl, refl), tt))) ((refl, refl), ((refl, refl), tt)) refl refl ring_is_swappable
+    (IsPermutation-append_left (s ∷ r ∷ []) (t ∷ a ∷ []) (a ∷ t ∷ []) (IsPermutation-append_comm (t ∷ []) (a ∷ [])), (IsPermutation-refl (t ∷ s ∷ r ∷ b ∷ []), tt))
+    ((λ _. refl), ((λ _. refl), ((λ _. refl), ((λ _. refl), ((λ _. refl), ((λ _. refl), tt))))))
 
 -- ---- two tetrahedra at m, the middle of the edge from o to x
 abbrev o : Coordinates

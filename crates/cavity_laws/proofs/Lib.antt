@@ -3,4 +3,5 @@ pub mod Cavities
 pub mod Balance
 pub mod Parity
 pub mod Swaps
+pub mod Replaced
 pub mod Examples

@@ -3,3 +3,4 @@ pub mod Filled
 pub mod Parity
 pub mod Balance
 pub mod Swap
+pub mod Replaced

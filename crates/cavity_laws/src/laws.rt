@@ -3,6 +3,7 @@ ghost use Rattle.cavity_laws.specs.Balance.{FacesAreBalanced};
 ghost use Rattle.cavity_laws.specs.Cavity.{CavityKeepsCover};
 ghost use Rattle.cavity_laws.specs.Filled.{FillingKeepsCover};
 ghost use Rattle.cavity_laws.specs.Parity.{CavityKeepsParity};
+ghost use Rattle.cavity_laws.specs.Replaced.{ReplacedStaysSound, SwapCanReplace};
 ghost use Rattle.cavity_laws.specs.Swap.{SwapKeepsCover, SwapKeepsParity};
 
 /// The cones that replace a cavity have a point within them as often as its tetrahedra.
@@ -33,4 +34,14 @@ pub fn swap_keeps_cover()
 /// It keeps which faces an odd number of tetrahedra have.
 pub fn swap_keeps_parity()
     ensures { SwapKeepsParity }
+{}
+
+/// A part of a sound mesh can be replaced by what covers the same, has the same faces an odd number of times and has its marked cells.
+pub fn replaced_stays_sound()
+    ensures { ReplacedStaysSound }
+{}
+
+/// In one region a swap does so, if it has the marked cells.
+pub fn swap_can_replace()
+    ensures { SwapCanReplace }
 {}
