@@ -57,9 +57,9 @@ fn worst_from(first: u32, tets: &[Tet]) -> u32
     worst
 }
 
-/// The least quality, 0 where there is no tetrahedron.
+/// The least quality, 0 where there is no tetrahedron. Takes no memory.
 #[tactic(auto, unfolding(ma_cells::specs::Worst::worst))]
-pub(crate) fn worst(tets: &[Tet]) -> u32
+pub fn worst(tets: &[Tet]) -> u32
     ensures { result ≡ worst tets.now }
 {
     match tets {

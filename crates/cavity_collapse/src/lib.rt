@@ -9,5 +9,9 @@ mod results;
 mod stars;
 mod surfaces;
 
+pub use filling::worst;
 pub use judging::{judge, judge_with, legal_with};
 pub use results::result;
+
+#[cfg(test)]
+mod tests;
