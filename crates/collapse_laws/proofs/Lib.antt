@@ -5,4 +5,5 @@ pub mod Marks
 pub mod OnCells
 pub mod Odd
 pub mod Collapses
+pub mod Adapts
 pub mod Examples

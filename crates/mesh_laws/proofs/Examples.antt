@@ -55,7 +55,7 @@ tet corners = record { corners = corners; phys = pos 1; elem = pos 1 }
 abbrev pub whole : List Tetrahedron
 whole = tet (o ∷ z ∷ y ∷ x ∷ []) ∷ []
 
-abbrev halves : List Tetrahedron
+abbrev pub halves : List Tetrahedron
 halves = tet (z ∷ y ∷ m ∷ x ∷ []) ∷ tet (o ∷ z ∷ y ∷ m ∷ []) ∷ []
 
 abbrev marks_on : List (List Coordinates) → List CellMark
@@ -65,14 +65,14 @@ abbrev pub marks : List CellMark
 marks = marks_on (faces_of (o ∷ z ∷ y ∷ x ∷ []))
 
 -- all faces of the halves but the one between them
-abbrev half_marks : List CellMark
+abbrev pub half_marks : List CellMark
 half_marks = marks_on ((z ∷ y ∷ x ∷ []) ∷ (z ∷ m ∷ x ∷ []) ∷ (y ∷ m ∷ x ∷ []) ∷ (o ∷ z ∷ y ∷ []) ∷ (o ∷ z ∷ m ∷ []) ∷ (o ∷ y ∷ m ∷ []) ∷ [])
 
 pub whole_tetrahedra : are_tetrahedra whole ≡ true
 unfolding vol6
 whole_tetrahedra = refl
 
-halves_tetrahedra : are_tetrahedra halves ≡ true
+pub halves_tetrahedra : are_tetrahedra halves ≡ true
 unfolding vol6
 halves_tetrahedra = refl
 

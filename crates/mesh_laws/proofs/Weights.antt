@@ -45,7 +45,7 @@ after v s t kept h = by v s t h (kept (alike_some v s h).1)
     by v s t h k = grind (arith, ints)
 
 -- it was strictly there, or on the plane
-before : (v s t : ℤ) → KeepsSign s t → are_alike v t ≡ true → (s ≡ pos 0) ⊎ (are_alike v s ≡ true)
+pub before : (v s t : ℤ) → KeepsSign s t → are_alike v t ≡ true → (s ≡ pos 0) ⊎ (are_alike v s ≡ true)
 before v s t kept h = elim (is_or_not s) [ inl e ↦ inl e | inr some ↦ inr (by v s t h (kept some)) ]
   where
     by : (v s t : ℤ) → are_alike v t ≡ true → are_alike s t ≡ true → are_alike v s ≡ true

@@ -1,0 +1,7 @@
+pub mod Classified
+pub mod Corners
+pub mod Opposite
+pub mod Wings
+pub mod Tests
+pub mod Legal
+pub mod Examples

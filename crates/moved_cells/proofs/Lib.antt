@@ -1,0 +1,5 @@
+pub mod Orders
+pub mod Moved
+pub mod Segments
+pub mod Triangles
+pub mod Examples

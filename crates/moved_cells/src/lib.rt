@@ -1,0 +1,4 @@
+//! Laws of segments and triangles of which a vertex is moved: each point stays on them.
+#![tactic(auto)]
+
+pub mod laws;
