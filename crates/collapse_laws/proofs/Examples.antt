@@ -12,13 +12,13 @@ use Rattle.ma_cells.specs.Tetrahedron.{Tetrahedron}
 use Rattle.ma_cells.specs.Worst.{worst}
 use Rattle.ma_cells.specs.declared.batch.Batch.{Batch}
 use Rattle.ma_cells.specs.declared.cell.Cell.TheVariants.{Tri}
-use Rattle.mesh_laws.specs.Adapted.{IsSoundMesh}
+use Rattle.mesh_laws.specs.Adapted.{IsAdapted, IsSoundMesh}
 use Rattle.mesh_laws.proofs.Examples.{halves_are_sound}
 use Rattle.size_marks.specs.Field.{Field, is_long, is_short}
 use Rattle.cavity_rank.specs.declared.verdict.Verdict.TheVariants.{Legal}
 use Rattle.cavity_collapse.specs.Judging.{judged_collapse}
 use Rattle.collapse_laws.specs.Collapses.{collapsed_mesh}
-use Rattle.collapse_laws.proofs.Collapses.{legal_collapse_keeps_mesh}
+use Rattle.collapse_laws.proofs.Adapts.{legal_collapse_adapts}
 
 abbrev at : ℕ → ℕ → ℕ → Coordinates
 at x y z = record { x = pos x; y = pos y; z = pos z }
@@ -62,8 +62,8 @@ legal : judged_collapse field (star_of (m ∷ []) mesh.tets) (marks_at (m ∷ []
 unfolding worst quality_of root longest2 vol6 len2 normal is_long is_short
 legal = refl
 
-pub still_sound : IsSoundMesh (collapsed_mesh m x mesh)
-still_sound = (legal_collapse_keeps_mesh field mesh m x 536870912 sound legal).0
+pub is_adapted : IsAdapted mesh (collapsed_mesh m x mesh)
+is_adapted = legal_collapse_adapts field mesh m x 536870912 sound refl legal
 
 -- one tetrahedron is left, with its four faces marked
 pub is_left : collapsed_mesh m x mesh ≡ record {
