@@ -20,7 +20,7 @@ use Rattle.cavity_collapse.specs.Collapsing.{moved_marks}
 use Rattle.cavity_collapse.specs.Judging.{judged_collapse}
 use Rattle.collapse_marks.specs.Marks.{MarksAllow}
 use Rattle.collapse_marks.proofs.Legal.{legal_collapse_keeps_classification}
-use Rattle.collapse_marks.proofs.Tests.{moved_marks_keep_classification}
+use Rattle.collapse_marks.proofs.At.{moved_marks_keep_classification}
 
 abbrev at : ℤ → ℤ → ℤ → Coordinates
 at x y z = record { x = x; y = y; z = z }
@@ -50,13 +50,13 @@ face t = record { cell = Tri t; phys = pos 2; elem = pos 7 }
 abbrev marks : List CellMark
 marks = segment (o ∷ m ∷ []) ∷ segment (m ∷ x ∷ []) ∷ half_marks
 
-marks_allow : MarksAllow m o marks
+marks_allow : MarksAllow m o (marks_at (m ∷ []) marks)
 unfolding normal vol6
-marks_allow = record { points = refl; curves = refl; planes = refl; surfaces = refl; turns = refl }
+marks_allow = record { distinct = refl; bent = refl; points = refl; curves = refl; planes = refl; surfaces = refl; turns = refl }
 
 kept : KeepsClassification marks (moved_marks m o marks)
 unfolding normal
-kept = moved_marks_keep_classification m o marks refl refl marks_allow
+kept = moved_marks_keep_classification m o marks refl marks_allow
 
 -- the segments are one, and so are the halves of two faces
 left : moved_marks m o marks ≡ segment (o ∷ x ∷ []) ∷ face (o ∷ z ∷ y ∷ []) ∷ face (o ∷ z ∷ x ∷ []) ∷ face (o ∷ y ∷ x ∷ []) ∷ face (z ∷ y ∷ x ∷ []) ∷ []

@@ -1,18 +1,16 @@
--- A legal collapse in a sound mesh passes the tests of marks, and marks away from the vertex don't matter.
-use Rattle.std.proofs.Common.{◌≡◌, ◌≢◌, ℕ, suc, Bool, true, false, cond, not, ◌&&◌, ◌||◌, List, [], ◌∷◌, ◌++◌, filter, refl, sym, ap, ap₂, subst, ◌∙◌}
-use Rattle.std.specs.Prelude.{ℤ, pos, ◌==◌}
-use Rattle.std.specs.List.{AllByRecursion, flat_map}
-use Rattle.std.specs.Option.{option_to_list}
-use Rattle.std.specs.Ordering.{eq_by_cmp, int_eq}
+-- A legal collapse in a sound mesh passes the tests of marks.
+use Rattle.std.proofs.Common.{◌≡◌, ◌≢◌, ℕ, suc, Bool, true, false, not, ◌&&◌, ◌||◌, List, [], ◌∷◌, refl, sym, ap, ap₂, subst, ◌∙◌}
+use Rattle.std.specs.Prelude.{pos}
+use Rattle.std.specs.List.{AllByRecursion}
+use Rattle.std.specs.Ordering.{eq_by_cmp}
 use Rattle.std.proofs.lemmas.Bool.{and_parts, false≢true}
-use Rattle.std.proofs.lemmas.List.Concat.{flat_map-append}
 use Rattle.std.proofs.lemmas.List.Sorted.{IsPermutation-sym}
 use Rattle.ma_geom.specs.Coordinates.{Coordinates, place_cmp}
 use Rattle.ma_geom.specs.Lines.{collinear}
 use Rattle.ma_geom.specs.Volume.{vol6}
 use Rattle.ma_geom.proofs.Identities.{flat_in_any_order}
 use Rattle.ma_cells.specs.Ascending.{are_distinct, has}
-use Rattle.ma_cells.specs.Cells.{CellMark, corners_of, is_cell, mark_cmp}
+use Rattle.ma_cells.specs.Cells.{CellMark, corners_of, is_cell}
 use Rattle.ma_cells.specs.Faces.{holds_all}
 use Rattle.ma_cells.specs.Incidence.{is_on}
 use Rattle.ma_cells.specs.Stars.{marks_at, star_of}
@@ -20,11 +18,8 @@ use Rattle.ma_cells.specs.Worst.{worst}
 use Rattle.ma_cells.specs.Tetrahedron.{Tetrahedron, is_flat}
 use Rattle.ma_cells.specs.declared.cell.Cell.{Cell}
 use Rattle.ma_cells.specs.declared.cell.Cell.TheVariants.{Point, Seg, Tri}
-use Rattle.ma_cells.proofs.CellOrders.{mark_cmp-IsAntisymmetric}
-use Rattle.ma_cells.proofs.Members.{has-filter}
-use Rattle.ma_cells.proofs.Passing.{all-filter, all_pass}
+use Rattle.ma_cells.proofs.Passing.{all-filter, all_pass, test_all}
 use Rattle.ma_cells.proofs.Permutations.{edge_first, has-permutation, same, tied}
-use Rattle.ma_cover.specs.Classification.{dimension, marked_cells}
 use Rattle.ma_cover.proofs.Anys.{any_and_all, any_gives, any_pass}
 use Rattle.mesh_laws.proofs.Lists.{all_two}
 use Rattle.mesh_laws.proofs.MovedOff.{bent}
@@ -34,18 +29,13 @@ use Rattle.cavity_rank.specs.Verdicts.{first_failing, verdict_of}
 use Rattle.cavity_rank.specs.declared.verdict.Verdict.{Verdict}
 use Rattle.cavity_rank.specs.declared.verdict.Verdict.TheVariants.{Illegal, Legal}
 use Rattle.cavity_collapse.specs.Collapsing.{collapsed}
-use Rattle.cavity_collapse.specs.Curves.{end_across}
 use Rattle.cavity_collapse.specs.Judging.{collapse_tests}
-use Rattle.plane_laws.specs.Planes.{CanMoveInPlanes}
-use Rattle.plane_laws.proofs.Items.{all_in, each, in_filter}
 use Rattle.collapse_marks.specs.Legal.{LegalCollapseKeepsClassification}
 use Rattle.collapse_marks.specs.Marks.{is_bent, is_bent_cell}
-use Rattle.moved_cells.specs.Segments.{AreStraight}
-use Rattle.collapse_marks.proofs.Classified.{CellsAllow, classified_alike, one}
 use Rattle.collapse_marks.proofs.Corners.{distinct_three}
-use Rattle.moved_cells.proofs.Moved.{eq_turned, not_and, or_parts}
-use Rattle.collapse_marks.proofs.Tests.{cells_allow}
-use Rattle.collapse_marks.proofs.Wings.{distinct_corners, edges}
+use Rattle.moved_cells.proofs.Moved.{eq_turned}
+use Rattle.collapse_marks.proofs.At.{filter-distinct, moved_marks_keep_classification}
+use Rattle.collapse_marks.proofs.Wings.{distinct_corners}
 
 abbrev eq : Coordinates → Coordinates → Bool
 eq = eq_by_cmp place_cmp
@@ -93,81 +83,23 @@ bent_on (Tri t) h corners solid held = by t (distinct_corners t h) held
     by (p ∷ q ∷ r ∷ []) d held = ap not (bent_face p q r (distinct_three p q r d) corners solid held)
     by (p ∷ q ∷ r ∷ s ∷ l) d held = refl
 
--- ---- a part of the marks
-filter-distinct : (test : CellMark → Bool) (ms : List CellMark) → are_distinct mark_cmp ms ≡ true → are_distinct mark_cmp (filter test ms) ≡ true
-filter-distinct test [] h = refl
-filter-distinct test (m ∷ ms) h =
-    let first = not_and (has mark_cmp m ms) (are_distinct mark_cmp ms) h in
-    by (test m) (ap not (has-filter mark_cmp-IsAntisymmetric test m ms ∙ ap (λ b. b && test m) first.0)) (filter-distinct test ms first.1)
-  where
-    by : (b : Bool) → not (has mark_cmp m (filter test ms)) ≡ true → are_distinct mark_cmp (filter test ms) ≡ true → are_distinct mark_cmp (cond b (m ∷ filter test ms) (filter test ms)) ≡ true
-    by true new more = rw new more
-    by false new more = more
-
-module _ {Y : Type 0} (h : List Coordinates → List Y) (a : Coordinates) (none : (s : List Coordinates) → has place_cmp a s ≡ false → h s ≡ []) (d : ℕ) (phys elem : ℤ) where
-  abbrev is_at : CellMark → Bool
-  is_at m = holds_all (corners_of m.cell) (a ∷ [])
-
-  of_mark : (m : CellMark) → is_at m ≡ false → flat_map h (one d phys elem m) ≡ []
-  of_mark m away = by ((dimension m.cell == d) && (int_eq m.phys phys && int_eq m.elem elem)) (none (corners_of m.cell) (and_last (has place_cmp a (corners_of m.cell)) away))
-    where
-      and_last : (b : Bool) → (b && true) ≡ false → b ≡ false
-      and_last true e = absurd (false≢true (sym e))
-      and_last false e = refl
-
-      by : (b : Bool) → h (corners_of m.cell) ≡ [] → flat_map h (cond b (corners_of m.cell ∷ []) []) ≡ []
-      by true e = ap (λ ys. ys ++ []) e
-      by false e = refl
-
-  -- marks away from a give nothing
-  pub at_alone : (ms : List CellMark) → flat_map h (marked_cells d phys elem (filter is_at ms)) ≡ flat_map h (marked_cells d phys elem ms)
-  at_alone [] = refl
-  at_alone (m ∷ ms) = by (is_at m) refl (at_alone ms) ∙ sym (flat_map-append h (one d phys elem m) (marked_cells d phys elem ms))
-    where
-      by : (b : Bool) → is_at m ≡ b → flat_map h (marked_cells d phys elem (filter is_at ms)) ≡ flat_map h (marked_cells d phys elem ms)
-          → flat_map h (marked_cells d phys elem (cond b (m ∷ filter is_at ms) (filter is_at ms))) ≡ flat_map h (one d phys elem m) ++ flat_map h (marked_cells d phys elem ms)
-      by true e more = flat_map-append h (one d phys elem m) (marked_cells d phys elem (filter is_at ms)) ∙ ap (λ ys. flat_map h (one d phys elem m) ++ ys) more
-      by false e more = more ∙ ap (λ ys. ys ++ flat_map h (marked_cells d phys elem ms)) (sym (of_mark m e))
-
-no_end : (a : Coordinates) (s : List Coordinates) → has place_cmp a s ≡ false → option_to_list (end_across a s) ≡ []
-no_end a [] h = refl
-no_end a (p ∷ []) h = refl
-no_end a (p ∷ q ∷ []) h = let two = or_parts (eq a p) (eq a q || false) h in rw (eq_turned p a ∙ two.0, eq_turned q a ∙ (or_parts (eq a q) false two.1).0) refl
-no_end a (p ∷ q ∷ r ∷ l) h = refl
-
-no_edge : (a : Coordinates) (t : List Coordinates) → has place_cmp a t ≡ false → edges a t ≡ []
-no_edge a [] h = refl
-no_edge a (p ∷ []) h = refl
-no_edge a (p ∷ q ∷ []) h = refl
-no_edge a (p ∷ q ∷ r ∷ []) h =
-    let two = or_parts (eq a p) (eq a q || (eq a r || false)) h in
-    let one = or_parts (eq a q) (eq a r || false) two.1 in
-    rw (eq_turned p a ∙ two.0, eq_turned q a ∙ one.0, eq_turned r a ∙ (or_parts (eq a r) false one.1).0) refl
-no_edge a (p ∷ q ∷ r ∷ s ∷ l) h = refl
-
-from_at : (a v : Coordinates) (marks : List CellMark) → CellsAllow a v (filter (is_at (λ s. option_to_list (end_across a s)) a (no_end a) 1 (pos 0) (pos 0)) marks) → CellsAllow a v marks
-from_at a v marks allow = record {
-  points = all_in (λ m. m.cell ≢ Point a) marks (λ m i e.
-      each (λ m. m.cell ≢ Point a) m (filter at_a marks) allow.points (in_filter at_a m marks i (subst (λ c. holds_all (corners_of c) (a ∷ []) ≡ true) (sym e) (ap (λ b. (b || false) && true) (tied a)))) e);
-  segments = λ phys elem. subst (AreStraight a v) (at_alone (λ s. option_to_list (end_across a s)) a (no_end a) 1 phys elem marks) (allow.segments phys elem);
-  triangles = λ phys elem. subst (CanMoveInPlanes a v) (at_alone (edges a) a (no_edge a) 2 phys elem marks) (allow.triangles phys elem);
-}
-  where
-    at_a : CellMark → Bool
-    at_a m = holds_all (corners_of m.cell) (a ∷ [])
-
 pub legal_collapse_keeps_classification : LegalCollapseKeepsClassification
 legal_collapse_keeps_classification field mesh a v w sound distinct legal =
     let star = star_of (a ∷ []) mesh.tets in
     let tests = all_passed 1 (worst (collapsed a v star)) w (collapse_tests field star (marks_at (a ∷ []) mesh.marks) a v) legal in
     let at_a = λ (m : CellMark). holds_all (corners_of m.cell) (a ∷ []) in
-    let ms = filter at_a mesh.marks in
     let are = all_pass (λ m. is_cell m.cell) mesh.marks sound.cells in
     let solid = tetrahedra_not_flat mesh.tets sound.tetrahedra in
     let on = all_pass (λ m. is_on mesh.tets m.cell) mesh.marks sound.sound.conforming.on_cells in
     let bent_all = all_two (λ (m : CellMark). is_cell m.cell ≡ true) (λ m. is_on mesh.tets m.cell ≡ true) (λ m. is_bent_cell m.cell ≡ true) (λ m cell there.
     any_gives (λ (tet : Tetrahedron). (is_flat tet.corners ≡ false) × (holds_all tet.corners (corners_of m.cell) ≡ true)) (λ tet both. bent_on m.cell cell tet.corners both.0 both.1) mesh.tets
     (any_and_all (λ (tet : Tetrahedron). is_flat tet.corners ≡ false) (λ tet. holds_all tet.corners (corners_of m.cell) ≡ true) mesh.tets solid (any_pass (λ (tet : Tetrahedron). holds_all tet.corners (corners_of m.cell)) mesh.tets there))) mesh.marks are on in
-    classified_alike a v mesh.marks are (from_at a v mesh.marks (cells_allow a v ms (filter-distinct at_a mesh.marks distinct)
-    (all-filter (λ m. is_cell m.cell ≡ true) at_a mesh.marks are) (all-filter (λ m. is_bent_cell m.cell ≡ true) at_a mesh.marks bent_all)
-    (record { points = tests.1.0; curves = tests.1.1.0; planes = tests.1.1.1.0; surfaces = tests.1.1.1.1.0; turns = tests.1.1.1.1.1.0 })))
+    moved_marks_keep_classification a v mesh.marks sound.cells (record {
+      distinct = filter-distinct at_a mesh.marks distinct;
+      bent = test_all (λ m. is_bent_cell m.cell) (marks_at (a ∷ []) mesh.marks) (all-filter (λ m. is_bent_cell m.cell ≡ true) at_a mesh.marks bent_all);
+      points = tests.1.0;
+      curves = tests.1.1.0;
+      planes = tests.1.1.1.0;
+      surfaces = tests.1.1.1.1.0;
+      turns = tests.1.1.1.1.1.0;
+    })

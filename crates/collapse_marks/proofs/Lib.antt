@@ -3,5 +3,6 @@ pub mod Corners
 pub mod Opposite
 pub mod Wings
 pub mod Tests
+pub mod At
 pub mod Legal
 pub mod Examples

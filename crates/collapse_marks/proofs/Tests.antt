@@ -13,10 +13,10 @@ use Rattle.ma_geom.specs.Turns.{same_turn}
 use Rattle.ma_geom.specs.Volume.{vol6}
 use Rattle.ma_geom.proofs.Identities.{vol6_exchange_bc, vol6_same_bd, vol6_same_cd}
 use Rattle.ma_cells.specs.Ascending.{are_distinct, has}
-use Rattle.ma_cells.specs.Cells.{CellMark, corners_of, is_cell, mark_cmp}
+use Rattle.ma_cells.specs.Cells.{CellMark, corners_of, is_cell}
 use Rattle.ma_cells.specs.declared.cell.Cell.{Cell}
 use Rattle.ma_cells.specs.declared.cell.Cell.TheVariants.{Point, Seg, Tri}
-use Rattle.ma_cells.proofs.Passing.{all_pass, all_weaker}
+use Rattle.ma_cells.proofs.Passing.{all_pass}
 use Rattle.ma_cells.proofs.Permutations.{apart, has-permutation, tied}
 use Rattle.ma_cover.specs.Classification.{dimension, marked_cells}
 use Rattle.ma_cover.proofs.Anys.{test_any}
@@ -25,10 +25,10 @@ use Rattle.cavity_collapse.specs.Curves.{curve_ends, end_across, far_end, is_seg
 use Rattle.cavity_collapse.specs.Surfaces.{across, edge_is_kept, are_on_both_sides, is_triangle_at, lies_in_plane, wings}
 use Rattle.plane_laws.specs.Planes.{CanMoveInPlanes, Edge, IsInnerOrOnLine, in_plane, thirds}
 use Rattle.plane_laws.proofs.Items.{IsIn, all_in, any, each, filter-alike, from_flat_map, in_filter, in_flat_map}
-use Rattle.collapse_marks.specs.Marks.{MarksAllow, MovedMarksKeepClassification, is_bent_cell}
+use Rattle.collapse_marks.specs.Marks.{MarksAllow, is_bent_cell}
 use Rattle.moved_cells.specs.Segments.{AreStraight, ends_of}
 use Rattle.moved_cells.specs.Triangles.{edge_of, link_of}
-use Rattle.collapse_marks.proofs.Classified.{CellsAllow, classified_alike, one}
+use Rattle.collapse_marks.proofs.Classified.{CellsAllow, one}
 use Rattle.collapse_marks.proofs.Corners.{IsAt, at_or_away, distinct_three, exchanged_sign}
 use Rattle.moved_cells.proofs.Moved.{distinct-permutation, eq_turned}
 use Rattle.collapse_marks.proofs.Opposite.{opposite}
@@ -128,7 +128,7 @@ module _ (a v : Coordinates) (marks : List CellMark) (allow : MarksAllow a v mar
       at_a mark = eq_by_cmp (slice_cmp place_cmp) (corners_of mark.cell) (a ∷ [])
 
 -- ---- triangles
-module _ (a v : Coordinates) (marks : List CellMark) (distinct : are_distinct mark_cmp marks ≡ true) (are : AllByRecursion (λ m. is_cell m.cell ≡ true) marks) (bent : AllByRecursion (λ m. is_bent_cell m.cell ≡ true) marks)
+module _ (a v : Coordinates) (marks : List CellMark) (are : AllByRecursion (λ m. is_cell m.cell ≡ true) marks)
     (allow : MarksAllow a v marks) (phys elem : ℤ) where
   abbrev link : List Edge
   link = link_of a (marked_cells 2 phys elem marks)
@@ -186,7 +186,7 @@ module _ (a v : Coordinates) (marks : List CellMark) (distinct : are_distinct ma
   is_bent : (e : Edge) → IsIn e link → collinear a e.x e.y ≡ false
   is_bent e i =
       let s = source e i in
-      not_is (collinear a e.x e.y) (sym s.at.bent ∙ subst (λ c. is_bent_cell c ≡ true) s.cell (each (λ m. is_bent_cell m.cell ≡ true) s.m marks bent s.is_in))
+      not_is (collinear a e.x e.y) (sym s.at.bent ∙ subst (λ c. is_bent_cell c ≡ true) s.cell (tested (λ m. is_bent_cell m.cell) allow.bent e s))
 
   turn : (e : Edge) → IsIn e link → e.x ≢ v → e.y ≢ v → same_turn (a ∷ e.x ∷ e.y ∷ []) (v ∷ e.x ∷ e.y ∷ []) ≡ true
   turn e i x_v y_v =
@@ -210,7 +210,7 @@ module _ (a v : Coordinates) (marks : List CellMark) (distinct : are_distinct ma
       let other : a ≢ z = λ f. false≢true (sym a_z ∙ subst (λ t. eq a t ≡ true) f (tied a)) in
       let is : thirds z (in_plane a e link) ≡ wings marks a z w s.m =
       wings_are a z other phys elem s.m s.tags K passes marks are ∙ sym (filter-alike (coplanar a z w) K planes (flat_map (thirds_of a z other phys elem s.m s.tags K passes) marks)) in
-      let once = subst (λ ws. are_distinct place_cmp ws ≡ true) (sym (wings_are a z other phys elem s.m s.tags K passes marks are)) (wings_distinct a z other phys elem s.m s.tags K passes marks are distinct) in
+      let once = subst (λ ws. are_distinct place_cmp ws ≡ true) (sym (wings_are a z other phys elem s.m s.tags K passes marks are)) (wings_distinct a z other phys elem s.m s.tags K passes marks are allow.distinct) in
       ⊎_elim inl (λ both. inr (opposite a z w (thirds z (in_plane a e link)) once here (subst (λ ws. are_on_both_sides a z w ws ≡ true) (sym is) both))) (or_cases (collinear a z v) (are_on_both_sides a z w (wings marks a z w s.m)) kept)
 
   abbrev T : Coordinates → Edge → List Coordinates
@@ -245,17 +245,9 @@ module _ (a v : Coordinates) (marks : List CellMark) (distinct : are_distinct ma
     turns = all_in (λ e. e.x ≢ v → e.y ≢ v → same_turn (a ∷ e.x ∷ e.y ∷ []) (v ∷ e.x ∷ e.y ∷ []) ≡ true) link turn;
   }
 
-pub cells_allow : (a v : Coordinates) → (marks : List CellMark) → are_distinct mark_cmp marks ≡ true → AllByRecursion (λ m. is_cell m.cell ≡ true) marks → AllByRecursion (λ m. is_bent_cell m.cell ≡ true) marks → MarksAllow a v marks
-    → CellsAllow a v marks
-cells_allow a v marks distinct are bent allow = record {
+pub cells_allow : (a v : Coordinates) (marks : List CellMark) → AllByRecursion (λ m. is_cell m.cell ≡ true) marks → MarksAllow a v marks → CellsAllow a v marks
+cells_allow a v marks are allow = record {
   points = points a v marks allow;
   segments = segments a v marks allow;
-  triangles = λ phys elem. triangles a v marks distinct are bent allow phys elem;
+  triangles = triangles a v marks are allow;
 }
-
-pub moved_marks_keep_classification : MovedMarksKeepClassification
-moved_marks_keep_classification a v marks distinct cells allow =
-    let all = all_pass (λ m. is_cell m.cell && is_bent_cell m.cell) marks cells in
-    let are = all_weaker (λ m. (is_cell m.cell && is_bent_cell m.cell) ≡ true) (λ m. is_cell m.cell ≡ true) (λ m h. (and_parts (is_cell m.cell) (is_bent_cell m.cell) h).0) marks all in
-    let bent = all_weaker (λ m. (is_cell m.cell && is_bent_cell m.cell) ≡ true) (λ m. is_bent_cell m.cell ≡ true) (λ m h. (and_parts (is_cell m.cell) (is_bent_cell m.cell) h).1) marks all in
-    classified_alike a v marks are (cells_allow a v marks distinct are bent allow)

@@ -13,5 +13,6 @@ AreCells n cells = AllByRecursion (λ corners. (length corners ≡ n) × (are_as
 abbrev pub moved_cell : (a v : Coordinates) → List Coordinates → List (List Coordinates)
 moved_cell a v corners = if are_distinct place_cmp (moved_corners a v corners) then ascending_of place_cmp (moved_corners a v corners) ∷ [] else []
 
+-- what becomes of cells
 abbrev pub moved_cells : (a v : Coordinates) → List (List Coordinates) → List (List Coordinates)
 moved_cells a v cells = flat_map (moved_cell a v) cells
