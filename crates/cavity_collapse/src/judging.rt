@@ -1,5 +1,6 @@
 // Whether a collapse is legal.
 ghost use Rattle.std.specs.Prelude.{◌≡◌, ◌∷◌, [], Ok};
+ghost use Rattle.std.specs.List.{list_all};
 ghost use Rattle.ma_cells.specs.Worst.{worst};
 ghost use Rattle.cavity_rank.specs.Verdicts.{first_failing, verdict_of};
 ghost use Rattle.cavity_collapse.specs.Curves.{curves_are_kept, is_free_point};
@@ -93,8 +94,22 @@ pub fn judge(
     }
 }
 
+/// Whether all tests pass but that of quality, those that cost less first.
+fn may_go(star: &[Tet], marks: &[Mark], a: Place, v: Place, field: &SizeField) -> bool
+    ensures { result ≡ list_all (λ test. test) (is_short_edge field.now star.now a v ∷ is_free_point marks.now a ∷ curves_are_kept marks.now a v ∷ planes_are_kept marks.now a v ∷ surfaces_are_kept marks.now a v ∷ turns_are_kept marks.now a v ∷ faces_are_seen star.now a v ∷ edges_stay_short field.now star.now a v ∷ []) }
+{
+    is_short_edge(field, star, a, v)
+        && is_free_point(marks, a)
+        && planes_are_kept(marks, a, v)
+        && curves_are_kept(marks, a, v)
+        && surfaces_are_kept(marks, a, v)
+        && turns_are_kept(marks, a, v)
+        && edges_stay_short(field, star, a, v)
+        && faces_are_seen(star, a, v)
+}
+
 /// The least quality of the new tetrahedra, where a collapse of `a` to `v` is legal, with the least
-/// quality of its star. Takes no memory.
+/// quality of its star. It takes no memory, and the tests that cost less come first.
 pub fn legal_with(
     star: &[Tet],
     marks: &[Mark],
@@ -106,7 +121,10 @@ pub fn legal_with(
     requires { old ≡ worst star.now }
     ensures { result ≡ legal_quality (judged_collapse field.now star.now marks.now a v) }
 {
-    match judge_with(star, marks, a, v, field, old) {
+    if !may_go(star, marks, a, v, field) {
+        return None;
+    }
+    match by_quality(old, new_worst(star, a, v)) {
         Verdict::Legal { worst } => Some(worst),
         Verdict::Illegal(_) => None,
     }

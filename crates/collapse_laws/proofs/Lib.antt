@@ -1,0 +1,9 @@
+pub mod Stars
+pub mod Filling
+pub mod Cover
+pub mod Marks
+pub mod OnCells
+pub mod Odd
+pub mod Collapses
+pub mod Adapts
+pub mod Examples

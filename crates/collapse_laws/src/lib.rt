@@ -1,0 +1,4 @@
+//! What a legal collapse keeps.
+#![tactic(auto)]
+
+pub mod laws;
