@@ -7,11 +7,16 @@ trap 'rm -rf "$folder"' EXIT
 cd "$folder"
 
 # Runs the program on the mesh file $1 with the size $2 and $3 rounds, and tells its status, wall time, processor time and peak memory.
-measure() {
+measure() { measure_with --uniform "$@"; }
+
+# The same with the size file $2.
+measure_sizes() { measure_with --size "$@"; }
+
+measure_with() {
     python3 - "$program" "$@" <<'END'
 import os, sys, time
-program, mesh, size, rounds = sys.argv[1:5]
-words = f"--plain --mesh {mesh} --uniform {size} --rounds {rounds} --collapse 0 --swap 0 --out stored".split()
+program, option, mesh, size, rounds = sys.argv[1:6]
+words = f"--plain --mesh {mesh} {option} {size} --rounds {rounds} --collapse 0 --swap 0 --out stored".split()
 start = time.perf_counter()
 pid = os.spawnv(os.P_NOWAIT, program, [program, *words])
 _, status, usage = os.wait4(pid, 0)

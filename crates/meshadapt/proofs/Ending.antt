@@ -158,8 +158,8 @@ module _ (job : Job) (s m : Seen) (t : Received) where
   pub halted_leaves : (X : Type 0) (status : Status) (why : Halt) → Runs {X = X} (Err why) job s m → Ends status why job m.sink t → Left status
   halted_leaves X status (halt.Unread file) h (inl ended) =
       let line : List ℕ = read_fault_line (file_name job file) in
-      subst Left (sym ended.0) (record { job = job; file = file; words_are = refl; counted = h.0; files = h.1.0; printed = subst (λ (r : Received). PutsLast [] line r t) h.1.1 ended.1 })
-  halted_leaves X status (halt.Unread file) h (inr out) = memory_left status out (inl h.1.0)
+      subst Left (sym ended.0) (record { job = job; file = file; words_are = refl; is_of_it = h.0; counted = h.1; files = h.2.0; printed = subst (λ (r : Received). PutsLast [] line r t) h.2.1 ended.1 })
+  halted_leaves X status (halt.Unread file) h (inr out) = memory_left status out (inl h.2.0)
   halted_leaves X status (halt.Refused refusal) h (inl ended) =
       subst Left (sym ended.0) (record { job = job; words_are = refl; verdict = h.0; counted = h.1; files = h.2.0; printed = subst (λ (r : Received). PutsLast [] (refused_line refusal) r t) h.2.1 ended.1 })
   halted_leaves X status (halt.Refused refusal) h (inr out) = memory_left status out (inl h.2.0)

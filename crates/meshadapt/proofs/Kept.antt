@@ -29,8 +29,8 @@ use Rattle.meshadapt.specs.Acts.{PutLine, Output, acts, final, final_text, outpu
 use Rattle.meshadapt.specs.Geometry.{GeometryIsKept, RoundsKeepGeometry, StoresKept}
 use Rattle.meshadapt.specs.Outcome.{Leaves, Seen, Stores}
 use Rattle.meshadapt.specs.Printed.{done_line, mesh_name}
-use Rattle.meshadapt.specs.Verdict.{Inputs, accepted_in, inputs_with, or_unaccepted, plan_of, raw_in_file, verdict, within_grid}
-use Rattle.meshadapt.specs.Words.{Job, field_of}
+use Rattle.meshadapt.specs.Verdict.{AcceptedMesh, Inputs, accepted_in, accepted_with, field_in, inputs_with, or_unaccepted, plan_of, raw_in_file, verdict, within_grid}
+use Rattle.meshadapt.specs.Words.{Job}
 use Rattle.meshadapt.proofs.Ending.{one_stored}
 use Rattle.meshadapt.specs.declared.status.Refusal.{Refusal}
 use Rattle.meshadapt.specs.declared.status.Refusal.TheVariants.{Rounds}
@@ -41,8 +41,8 @@ use Rattle.mesh_check.proofs.Fair.{accepted_is_fair}
 use Rattle.ma_cells.proofs.SetItems.{all-ascending_of}
 
 -- it is sound, and all places are on the grid
-abbrev IsFine : Inputs → Type 0
-IsFine inputs = IsSoundMesh inputs.mesh × (mesh_is_on_grid inputs.grid inputs.mesh ≡ true)
+abbrev IsFine : AcceptedMesh → Type 0
+IsFine accepted = IsSoundMesh accepted.mesh × (mesh_is_on_grid accepted.grid accepted.mesh ≡ true)
 
 -- ---- the mesh of a file
 in_set : (test : Tetrahedron → Bool) (tets : List Tetrahedron) → list_all test tets ≡ true → list_all test (ascending_of tet_cmp tets) ≡ true
@@ -58,8 +58,8 @@ on_its_grid : (tets : List Tetrahedron) → are_on_grid (grid_of tets) tets ≡ 
 unfolding grid_of
 on_its_grid tets = (grid_is_greatest tets).passes
 
-set_is_fine : (field : Field) (names : List GroupName) (mesh : MarkedMesh) → IsFair mesh → IsFine (inputs_with field names mesh)
-set_is_fine field names mesh fair = (
+set_is_fine : (names : List GroupName) (mesh : MarkedMesh) → IsFair mesh → IsFine (accepted_with names mesh)
+set_is_fine names mesh fair = (
   record {
     tetrahedra = in_set (λ tet. are_corners tet.corners) mesh.tets fair.not_flat;
     cells = fair.cells;
@@ -71,42 +71,47 @@ set_is_fine field names mesh fair = (
 ok_is : {A E : Type 0} {x y : A} → ◌≡◌ {A = Result A E} (Ok x) (Ok y) → x ≡ y
 ok_is e = cc
 
-accepted_fine : (field : Field) (names : List GroupName) (read : Result MarkedMesh MeshFault) (inputs : Inputs) → ((mesh : MarkedMesh) → read ≡ Ok mesh → IsFair mesh) → or_unaccepted field names read ≡ Ok inputs → IsFine inputs
-accepted_fine field names (Ok mesh) inputs fair e = subst IsFine (ok_is e) (set_is_fine field names mesh (fair mesh refl))
-accepted_fine field names (Err fault) inputs fair e = absurd cc
+accepted_fine : (names : List GroupName) (read : Result MarkedMesh MeshFault) (accepted : AcceptedMesh) → ((mesh : MarkedMesh) → read ≡ Ok mesh → IsFair mesh) → or_unaccepted names read ≡ Ok accepted → IsFine accepted
+accepted_fine names (Ok mesh) accepted fair e = subst IsFine (ok_is e) (set_is_fine names mesh (fair mesh refl))
+accepted_fine names (Err fault) accepted fair e = absurd cc
 
-raw_fine : (field : Field) (raw : Raw) (inputs : Inputs) → accepted_in field raw ≡ Ok inputs → IsFine inputs
-raw_fine field raw inputs e = accepted_fine field raw.names (accepted_of raw 0) inputs (accepted_is_fair raw 0) e
+raw_fine : (raw : Raw) (accepted : AcceptedMesh) → accepted_in raw ≡ Ok accepted → IsFine accepted
+raw_fine raw accepted e = accepted_fine raw.names (accepted_of raw 0) accepted (accepted_is_fair raw 0) e
 
 -- ---- a job
-within_is : (rounds : ℕ) (found inputs : Inputs) → within_grid rounds found ≡ Ok inputs → (found ≡ inputs) × (rounds ≤ inputs.grid)
-within_is rounds found inputs e =
-    elim (nat_le rounds found.grid) as (λ b. nat_le rounds found.grid ≡ b → cond b (Ok found) (Err (Rounds rounds found.grid)) ≡ Ok inputs → (found ≡ inputs) × (rounds ≤ inputs.grid)) [
-      | true ↦ λ within e. (ok_is e, subst (λ (n : Inputs). rounds ≤ n.grid) (ok_is e) (at_most rounds found.grid within))
+within_is : (rounds : ℕ) (accepted : AcceptedMesh) (field : Field) (inputs : Inputs) → within_grid rounds accepted field ≡ Ok inputs → (inputs_with accepted field ≡ inputs) × (rounds ≤ accepted.grid)
+within_is rounds accepted field inputs e =
+    elim (nat_le rounds accepted.grid) as (λ b. nat_le rounds accepted.grid ≡ b → cond b (Ok (inputs_with accepted field)) (Err (Rounds rounds accepted.grid)) ≡ Ok inputs → (inputs_with accepted field ≡ inputs) × (rounds ≤ accepted.grid)) [
+      | true ↦ λ within e. (ok_is e, at_most rounds accepted.grid within)
       | false ↦ λ _ e. absurd cc
     ] refl e
   where
     at_most : (m n : ℕ) → nat_le m n ≡ true → m ≤ n
     at_most m n h = grind (arith, nat_tests)
 
-found_fine : (field : Field) (rounds : ℕ) (read : Result Raw Refusal) (inputs : Inputs) → (read >>= λ raw. (accepted_in field raw >>= within_grid rounds)) ≡ Ok inputs → IsFine inputs × (rounds ≤ inputs.grid)
-found_fine field rounds read inputs e =
-    let first = then_ok read (λ raw. accepted_in field raw >>= within_grid rounds) inputs e in
-    let second = then_ok (accepted_in field first.0) (within_grid rounds) inputs first.2 in
-    let third = within_is rounds second.0 inputs second.2 in
-    (subst IsFine third.0 (raw_fine field first.0 second.0 second.1), third.1)
+-- the mesh of the inputs is fine, and there are no more rounds than its grid can be halved
+abbrev IsReady : ℕ → Inputs → Type 0
+IsReady rounds inputs = IsSoundMesh inputs.mesh × (mesh_is_on_grid inputs.grid inputs.mesh ≡ true) × (rounds ≤ inputs.grid)
+
+found_fine : (sized : Result Field Refusal) (rounds : ℕ) (read : Result Raw Refusal) (inputs : Inputs) → ((read >>= accepted_in) >>= λ accepted. (sized >>= within_grid rounds accepted)) ≡ Ok inputs → IsReady rounds inputs
+found_fine sized rounds read inputs e =
+    let found = then_ok (read >>= accepted_in) (λ accepted. sized >>= within_grid rounds accepted) inputs e in
+    let raw = then_ok read accepted_in found.0 found.1 in
+    let field = then_ok sized (within_grid rounds found.0) inputs found.2 in
+    let within = within_is rounds found.0 field.0 inputs field.2 in
+    let fine = raw_fine raw.0 found.0 raw.2 in
+    subst (IsReady rounds) within.0 (fine.0, fine.1, within.1)
 
 pub rounds_keep_geometry : RoundsKeepGeometry
 rounds_keep_geometry files job inputs round e few =
     let mesh : Batch = inputs.mesh in
     let plan : Plan = plan_of job inputs in
-    let found = found_fine (field_of job) job.rounds (raw_in_file (get files job.mesh)) inputs e in
-    let fine = found.0 in
-    let left : (inputs.grid - round) + round ≡ inputs.grid = let most = found.1 in omega arith in
+    let found = found_fine (field_in job.sizes files) job.rounds (raw_in_file (get files job.mesh)) inputs e in
+    let left : (inputs.grid - round) + round ≡ inputs.grid = let most = found.2 in omega arith in
     record {
-      sound = fine.0;
-      adapted = rounds_adapt round plan mesh fine.0;
-      grid = rounds_halve_the_grid (inputs.grid - round) round plan mesh (subst (λ k. mesh_is_on_grid k mesh ≡ true) (sym left) fine.1);
+      sound = found.0;
+      adapted = rounds_adapt round plan mesh found.0;
+      grid = rounds_halve_the_grid (inputs.grid - round) round plan mesh (subst (λ k. mesh_is_on_grid k mesh ≡ true) (sym left) found.1);
     }
 
 -- ---- a run

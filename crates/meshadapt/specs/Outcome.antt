@@ -1,20 +1,21 @@
 -- What a run leaves, by the status that it ends with.
-use Rattle.std.specs.Prelude.{◌≡◌, ℕ, ◌-◌, ◌⊎◌, List, [], ◌∷◌, ◌++◌, take, Option, Some, None, Result, Ok, Err, IfSome}
+use Rattle.std.specs.Prelude.{◌≡◌, ℕ, ◌-◌, ◌⊎◌, true, List, [], ◌∷◌, ◌++◌, take, Option, Some, None, Result, Ok, Err, IfSome}
 use Rattle.ma_io.specs.Count.{Rose}
 use Rattle.ma_io.specs.Files.{Files}
 use Rattle.ma_io.specs.Held.{Held}
 use Rattle.ma_io.specs.Received.{Received}
 use Rattle.ma_io.specs.Store.{HoldsFront}
+use Rattle.job_files.specs.declared.fault.JobFault.TheVariants as job_faults
 use Rattle.mesh_check.specs.declared.fault.MeshFault.TheVariants as faults
 use Rattle.msh_read.specs.declared.fault.MshFault.TheVariants.{At, Memory as NoMemory}
 use Rattle.one_mesh.specs.Adaptation.{IsFirstPast, StaysWithin}
 use Rattle.meshadapt.specs.Acts.{Act, PutLine, StoreFile, Output, acts, begun, bytes_of, files_with, outputs, rounds_among}
 use Rattle.meshadapt.specs.declared.status.Refusal.{Refusal}
-use Rattle.meshadapt.specs.declared.status.Refusal.TheVariants.{Missing, TooLong, Mesh, Accept, Rounds}
+use Rattle.meshadapt.specs.declared.status.Refusal.TheVariants.{Missing, TooLong, Mesh, Accept, Size, Rounds}
 use Rattle.meshadapt.specs.declared.status.FileKind.{FileKind}
 use Rattle.meshadapt.specs.declared.status.Status.{Status}
 use Rattle.meshadapt.specs.declared.status.Status.TheVariants.{Done, Usage, ReadFault, WriteFault, Refused, TooMany, Memory}
-use Rattle.meshadapt.specs.Printed.{file_name, read_fault_line, refused_line, too_many_line, usage_line, write_fault_line}
+use Rattle.meshadapt.specs.Printed.{file_name, is_of_job, read_fault_line, refused_line, too_many_line, usage_line, write_fault_line}
 use Rattle.meshadapt.specs.Verdict.{Inputs, plan_of, verdict}
 use Rattle.meshadapt.specs.Words.{Job}
 
@@ -82,6 +83,7 @@ pub record LeavesReadFault (words : Option Job) (s t : Seen) : Type 0 where
   pub job : Job
   pub file : FileKind
   pub words_are : words ≡ Some job
+  pub is_of_it : is_of_job job file ≡ true
   pub counted : Rose s.depot.fetch_faults t.depot.fetch_faults
   pub files : t.depot.files ≡ s.depot.files
   pub printed : PutsLast [] (read_fault_line (file_name job file)) s.sink t.sink
@@ -94,6 +96,8 @@ RefusalCounted (Mesh (At line kind)) s t = Unit {0}
 RefusalCounted (Mesh NoMemory) s t = ⊥
 RefusalCounted (Accept faults.Memory) s t = ⊥
 RefusalCounted (Accept fault) s t = Unit {0}
+RefusalCounted (Size job_faults.Memory) s t = ⊥
+RefusalCounted (Size fault) s t = Unit {0}
 RefusalCounted (Rounds rounds grid) s t = Unit {0}
 
 pub record LeavesRefused (refusal : Refusal) (words : Option Job) (s t : Seen) : Type 0 where

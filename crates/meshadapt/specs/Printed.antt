@@ -1,7 +1,9 @@
 -- The lines that a run prints.
-use Rattle.std.specs.Prelude.{ℕ, List, [], ◌∷◌, ◌++◌, length, codes}
+use Rattle.std.specs.Prelude.{ℕ, Bool, true, false, List, [], ◌∷◌, ◌++◌, length, codes}
 use Rattle.std.specs.Fmt.{decimal, signed_decimal}
 use Rattle.std.specs.List.{count_by}
+use Rattle.job_files.specs.declared.fault.JobFault.{JobFault}
+use Rattle.job_files.specs.declared.fault.JobFault.TheVariants as job_faults
 use Rattle.ma_cells.specs.Worst.{worst}
 use Rattle.ma_cells.specs.declared.batch.Batch.{Batch}
 use Rattle.mesh_check.specs.declared.fault.MeshFault.{MeshFault}
@@ -12,10 +14,10 @@ use Rattle.msh_read.specs.declared.fault.MshKind.{MshKind}
 use Rattle.msh_read.specs.declared.fault.MshKind.TheVariants.{NoFormat, OtherVersion, Binary, BadLine, BadCount, NotWhole, OutOfRange, NodeTwice, NoSuchNode, OtherKind, Truncated, NoNodes, NoElements}
 use Rattle.msh_write.specs.Text.{is_tagged, nodes_of}
 use Rattle.meshadapt.specs.declared.status.FileKind.{FileKind}
-use Rattle.meshadapt.specs.declared.status.FileKind.TheVariants.{MeshFile}
+use Rattle.meshadapt.specs.declared.status.FileKind.TheVariants.{MeshFile, SizeFile}
 use Rattle.meshadapt.specs.declared.status.Refusal.{Refusal}
-use Rattle.meshadapt.specs.declared.status.Refusal.TheVariants.{Missing, TooLong, Mesh, Accept, Rounds}
-use Rattle.meshadapt.specs.Words.{Job}
+use Rattle.meshadapt.specs.declared.status.Refusal.TheVariants.{Missing, TooLong, Mesh, Accept, Size, Rounds}
+use Rattle.meshadapt.specs.Words.{Job, Sizes, Uniform, InFile}
 
 abbrev pub ended_line : List ℕ → List ℕ
 ended_line line = line ++ 10 ∷ []
@@ -45,9 +47,23 @@ usage_line = ended_line (codes "usage")
 abbrev pub mesh_name : Job → List ℕ
 mesh_name job = job.out ++ codes ".msh"
 
+abbrev pub size_file_name : Sizes → List ℕ
+size_file_name (Uniform size) = []
+size_file_name (InFile name) = name
+
+abbrev pub are_in_file : Sizes → Bool
+are_in_file (Uniform size) = false
+are_in_file (InFile name) = true
+
 -- the name of a file that is fetched for a job
 abbrev pub file_name : Job → FileKind → List ℕ
 file_name job MeshFile = job.mesh
+file_name job SizeFile = size_file_name job.sizes
+
+-- whether a file of this kind is fetched for a job
+abbrev pub is_of_job : Job → FileKind → Bool
+is_of_job job MeshFile = true
+is_of_job job SizeFile = are_in_file job.sizes
 
 -- the name of the file that couldn't be fetched
 unfoldable pub read_fault_line : List ℕ → List ℕ
@@ -90,12 +106,23 @@ fault_text faults.Memory = codes "memory"
 
 abbrev pub file_text : FileKind → List ℕ
 file_text MeshFile = codes "mesh"
+file_text SizeFile = codes "size"
+
+-- why a size file can't be read. The last three are no faults of one.
+abbrev pub sizes_text : JobFault → List ℕ
+sizes_text (job_faults.BadLine line) = codes "size line " ++ decimal line ++ codes ": bad line"
+sizes_text (job_faults.SizeOutOfRange line) = codes "size line " ++ decimal line ++ codes ": out of range"
+sizes_text (job_faults.TooManyBoxes line) = codes "size line " ++ decimal line ++ codes ": too many boxes"
+sizes_text (job_faults.PartTooBig line) = codes "size line " ++ decimal line ++ codes ": part too big"
+sizes_text (job_faults.WrongCount have want) = codes "size: " ++ decimal have ++ codes " lines for " ++ decimal want ++ codes " nodes"
+sizes_text job_faults.Memory = codes "memory"
 
 abbrev pub refusal_text : Refusal → List ℕ
 refusal_text (Missing file) = file_text file ++ codes ": missing"
 refusal_text (TooLong file) = file_text file ++ codes ": too long"
 refusal_text (Mesh fault) = reading_text fault
 refusal_text (Accept fault) = codes "mesh: " ++ fault_text fault
+refusal_text (Size fault) = sizes_text fault
 refusal_text (Rounds rounds grid) = codes "rounds " ++ decimal rounds ++ codes " grid " ++ decimal grid
 
 unfoldable pub refused_line : Refusal → List ℕ

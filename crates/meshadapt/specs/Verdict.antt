@@ -1,6 +1,8 @@
 -- What a job's files say: what its run starts from, or why the job is refused.
-use Rattle.std.specs.Prelude.{ℕ, nat_le, if◌then◌else◌, List, length, Option, Some, None, Result, Ok, Err}
+use Rattle.std.specs.Prelude.{ℕ, nat_le, if◌then◌else◌, List, [], length, Option, Some, None, Result, Ok, Err}
 use Rattle.std.specs.FinMap.{get}
+use Rattle.job_files.specs.declared.fault.JobFault.{JobFault}
+use Rattle.job_files.specs.Sizes.{field_of}
 use Rattle.ma_io.specs.Files.{Files}
 use Rattle.ma_cells.specs.Grid.{grid_of}
 use Rattle.ma_cells.specs.Meshes.{MarkedMesh}
@@ -16,12 +18,19 @@ use Rattle.one_mesh.specs.Adaptation.{Plan}
 use Rattle.one_mesh.specs.Holding.{set_of}
 use Rattle.size_marks.specs.Field.{Field}
 use Rattle.meshadapt.specs.declared.status.FileKind.{FileKind}
-use Rattle.meshadapt.specs.declared.status.FileKind.TheVariants.{MeshFile}
+use Rattle.meshadapt.specs.declared.status.FileKind.TheVariants.{MeshFile, SizeFile}
 use Rattle.meshadapt.specs.declared.status.Refusal.{Refusal}
-use Rattle.meshadapt.specs.declared.status.Refusal.TheVariants.{Missing, TooLong, Mesh, Accept, Rounds}
-use Rattle.meshadapt.specs.Words.{Job, field_of}
+use Rattle.meshadapt.specs.declared.status.Refusal.TheVariants.{Missing, TooLong, Mesh, Accept, Size, Rounds}
+use Rattle.meshadapt.specs.Words.{Job, Sizes, Uniform, InFile}
 
--- what a run starts from: the mesh that is accepted, its grid exponent, how many of its file's marks were loose, the names of its file, and the size of edges
+-- the mesh that is accepted, its grid exponent, how many of its file's marks were loose, and the names of its file
+pub record AcceptedMesh : Type 0 where
+  pub mesh : Batch
+  pub grid : ℕ
+  pub loose : ℕ
+  pub names : List GroupName
+
+-- what a run starts from: these, and the sizes of edges
 pub record Inputs : Type 0 where
   pub mesh : Batch
   pub grid : ℕ
@@ -54,25 +63,45 @@ raw_in bytes = or_unread (read_of bytes)
 abbrev pub raw_in_file : Option (List ℕ) → Result Raw Refusal
 raw_in_file file = bytes_in MeshFile file >>= raw_in
 
--- a mesh, as sets, with these names and this size of edges
-abbrev pub inputs_with : Field → List GroupName → MarkedMesh → Inputs
-inputs_with field names mesh = record { mesh = set_of mesh; grid = grid_of mesh.tets; loose = mesh.loose; names = names; field = field }
+-- a mesh, as sets, with these names
+abbrev pub accepted_with : List GroupName → MarkedMesh → AcceptedMesh
+accepted_with names mesh = record { mesh = set_of mesh; grid = grid_of mesh.tets; loose = mesh.loose; names = names }
 
-abbrev pub or_unaccepted : Field → List GroupName → Result MarkedMesh MeshFault → Result Inputs Refusal
-or_unaccepted field names (Ok mesh) = Ok (inputs_with field names mesh)
-or_unaccepted field names (Err fault) = Err (Accept fault)
+abbrev pub or_unaccepted : List GroupName → Result MarkedMesh MeshFault → Result AcceptedMesh Refusal
+or_unaccepted names (Ok mesh) = Ok (accepted_with names mesh)
+or_unaccepted names (Err fault) = Err (Accept fault)
 
--- the inputs with the mesh that a raw mesh is
-abbrev pub accepted_in : Field → Raw → Result Inputs Refusal
-accepted_in field raw = or_unaccepted field raw.names (accepted_of raw 0)
+-- the mesh that a raw mesh is
+abbrev pub accepted_in : Raw → Result AcceptedMesh Refusal
+accepted_in raw = or_unaccepted raw.names (accepted_of raw 0)
+
+-- the mesh in a file, if it is there
+abbrev pub accepted_in_file : Option (List ℕ) → Result AcceptedMesh Refusal
+accepted_in_file file = raw_in_file file >>= accepted_in
+
+abbrev pub or_unsized : Result Field JobFault → Result Field Refusal
+or_unsized (Ok field) = Ok field
+or_unsized (Err fault) = Err (Size fault)
+
+-- the sizes that the bytes of a size file tell
+abbrev pub sizes_in : List ℕ → Result Field Refusal
+sizes_in bytes = or_unsized (field_of bytes)
+
+-- the sizes of a job, which may stand in a file
+abbrev pub field_in : Sizes → Files → Result Field Refusal
+field_in (Uniform size) files = Ok (record { default = size; boxes = [] })
+field_in (InFile name) files = bytes_in SizeFile (get files name) >>= sizes_in
+
+abbrev pub inputs_with : AcceptedMesh → Field → Inputs
+inputs_with accepted field = record { mesh = accepted.mesh; grid = accepted.grid; loose = accepted.loose; names = accepted.names; field = field }
 
 -- A round halves the grid, so that there are at most as many rounds as its exponent.
-abbrev pub within_grid : ℕ → Inputs → Result Inputs Refusal
-within_grid rounds inputs = if nat_le rounds inputs.grid then Ok inputs else Err (Rounds rounds inputs.grid)
+abbrev pub within_grid : ℕ → AcceptedMesh → Field → Result Inputs Refusal
+within_grid rounds accepted field = if nat_le rounds accepted.grid then Ok (inputs_with accepted field) else Err (Rounds rounds accepted.grid)
 
--- the mesh's file is there, it can be read, the mesh is accepted, and its grid is fine enough; or the first of these that fails
+-- the mesh's file is there, it can be read, the mesh is accepted; the size file, if the words name one, is there and can be read; and the grid is fine enough; or the first of these that fails
 abbrev pub verdict : Files → Job → Result Inputs Refusal
 verdict files job = do
-  raw ← raw_in_file (get files job.mesh)
-  inputs ← accepted_in (field_of job) raw
-  within_grid job.rounds inputs
+  accepted ← accepted_in_file (get files job.mesh)
+  field ← field_in job.sizes files
+  within_grid job.rounds accepted field

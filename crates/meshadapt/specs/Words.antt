@@ -3,20 +3,20 @@ use Rattle.std.specs.Prelude.{ℕ, ◌^◌, ◌&&◌, ◌==◌, nat_le, if◌the
 use Rattle.std.specs.Option.{option_and_then}
 use Rattle.std.specs.Str.{bytes_eq}
 use Rattle.ma_text.specs.Numbers as numbers
-use Rattle.size_marks.specs.Field.{Field}
 
--- the file of the mesh, the size of edges, how many rounds are run, how many collapse passes and swap passes each has, and the front of the names of what is stored
+-- the size of edges is the same everywhere, or it stands in the file of this name
+pub data Sizes : Type 0 where
+  Uniform : ℕ → Sizes
+  InFile : List ℕ → Sizes
+
+-- the file of the mesh, the sizes of edges, how many rounds are run, how many collapse passes and swap passes each has, and the front of the names of what is stored
 pub record Job : Type 0 where
   pub mesh : List ℕ
-  pub size : ℕ
+  pub sizes : Sizes
   pub rounds : ℕ
   pub collapses : ℕ
   pub swaps : ℕ
   pub out : List ℕ
-
--- the size of edges, which is the same everywhere
-abbrev pub field_of : Job → Field
-field_of job = record { default = job.size; boxes = [] }
 
 -- a number from low to high
 abbrev pub in_range : ℕ → ℕ → ℕ → Option ℕ
@@ -54,14 +54,35 @@ number_of name low high words = do
   n ← number_in low high value.0
   Some (n, value.1)
 
--- the words --plain --mesh M --uniform H --rounds N --collapse 0 --swap 0 --out X, in this order
+-- the first of two that is there
+abbrev pub or_else : {A : Type 0} → Option A → Option A → Option A
+or_else None other = other
+or_else (Some found) other = Some found
+
+-- --uniform H
+unfoldable pub uniform_of : List (List ℕ) → Option (Sizes × List (List ℕ))
+uniform_of words = do
+  size ← number_of (codes "--uniform") 1 (2 ^ 30) words
+  Some (Uniform size.0, size.1)
+
+-- --size S
+unfoldable pub size_file_of : List (List ℕ) → Option (Sizes × List (List ℕ))
+size_file_of words = do
+  name ← value_of (codes "--size") words
+  Some (InFile name.0, name.1)
+
+-- the sizes, and the words behind them, if they come first
+unfoldable pub sizes_of : List (List ℕ) → Option (Sizes × List (List ℕ))
+sizes_of words = or_else (uniform_of words) (size_file_of words)
+
+-- the words --plain --mesh M --uniform H --rounds N --collapse 0 --swap 0 --out X, in this order, or with --size S in place of --uniform H
 unfoldable pub job_of : List (List ℕ) → Option Job
 job_of words = do
   options ← after_flag (codes "--plain") words
   mesh ← value_of (codes "--mesh") options
-  size ← number_of (codes "--uniform") 1 (2 ^ 30) mesh.1
-  rounds ← number_of (codes "--rounds") 0 30 size.1
+  sizes ← sizes_of mesh.1
+  rounds ← number_of (codes "--rounds") 0 30 sizes.1
   collapse ← number_of (codes "--collapse") 0 0 rounds.1
   swap ← number_of (codes "--swap") 0 0 collapse.1
   out ← value_of (codes "--out") swap.1
-  if length out.1 == 0 then Some (record { mesh = mesh.0; size = size.0; rounds = rounds.0; collapses = collapse.0; swaps = swap.0; out = out.0 }) else None
+  if length out.1 == 0 then Some (record { mesh = mesh.0; sizes = sizes.0; rounds = rounds.0; collapses = collapse.0; swaps = swap.0; out = out.0 }) else None

@@ -2,13 +2,14 @@
 ghost use Rattle.std.specs.Prelude.{◌≡◌, ◌++◌, IfOk, codes, length, string_bytes};
 ghost use Rattle.msh_read.specs.declared.fault.MshFault.TheVariants.{At};
 ghost use Rattle.msh_write.specs.Text.{nodes_of};
-ghost use Rattle.meshadapt.specs.declared.status.Refusal.TheVariants.{Accept, Mesh, Rounds};
-ghost use Rattle.meshadapt.specs.Printed.{fault_text, file_name, kind_text, mesh_line, read_fault_line, refused_line, round_line, too_many_line, usage_line, write_fault_line};
+ghost use Rattle.meshadapt.specs.declared.status.Refusal.TheVariants.{Accept, Mesh, Rounds, Size};
+ghost use Rattle.meshadapt.specs.Printed.{fault_text, file_name, kind_text, mesh_line, read_fault_line, refused_line, round_line, sizes_text, too_many_line, usage_line, write_fault_line};
 ghost use Rattle.meshadapt.specs.steps.Running.{asked};
 
 use crate::measures::{tagged_count, worst};
 use crate::status::{FileKind, Refusal};
-use crate::words::Job;
+use crate::words::{Job, Sizes};
+use job_files::JobFault;
 use ma_cells::Batch;
 use ma_geom::Memory;
 use mesh_check::MeshFault;
@@ -59,6 +60,10 @@ pub fn file_name<'a>(job: &Job<'a>, file: FileKind) -> &'a str
 {
     match file {
         FileKind::MeshFile => job.mesh,
+        FileKind::SizeFile => match job.sizes {
+            Sizes::Uniform(_) => "",
+            Sizes::InFile(name) => name,
+        },
     }
 }
 
@@ -157,6 +162,31 @@ fn unaccepted_line(alloc: Global, fault: MeshFault) -> Result<String, Memory>
     Ok(format!(in alloc; "refused: mesh: {fault}\n")?)
 }
 
+/// What is told of a size file that can't be read.
+fn sizes_text(alloc: Global, fault: JobFault) -> Result<String, Memory>
+    ensures { IfOk result (λ text. string_bytes text ≡ sizes_text fault) }
+{
+    match fault {
+        JobFault::BadLine(line) => Ok(format!(in alloc; "size line {line}: bad line")?),
+        JobFault::SizeOutOfRange(line) => Ok(format!(in alloc; "size line {line}: out of range")?),
+        JobFault::TooManyBoxes(line) => Ok(format!(in alloc; "size line {line}: too many boxes")?),
+        JobFault::PartTooBig(line) => Ok(format!(in alloc; "size line {line}: part too big")?),
+        JobFault::WrongCount(have, want) => {
+            Ok(format!(in alloc; "size: {have} lines for {want} nodes")?)
+        }
+        JobFault::Memory => Ok(String::from_str(alloc, "memory")?),
+    }
+}
+
+/// The line that tells why a size file can't be read.
+#[tactic(auto, unfolding(crate::specs::Printed::refused_line))]
+fn unsized_line(alloc: Global, fault: JobFault) -> Result<String, Memory>
+    ensures { IfOk result (λ line. string_bytes line ≡ refused_line (Size fault)) }
+{
+    let fault = sizes_text(alloc, fault)?;
+    Ok(format!(in alloc; "refused: {fault}\n")?)
+}
+
 /// The line that tells that the grid is too fine for the rounds.
 #[tactic(auto, unfolding(crate::specs::Printed::refused_line))]
 fn rounds_line(alloc: Global, rounds: u32, grid: u32) -> Result<String, Memory>
@@ -179,7 +209,16 @@ pub fn refused_line(alloc: Global, refusal: Refusal) -> Result<String, Memory>
             alloc,
             "refused: mesh: too long\n",
         )?),
+        Refusal::Missing(FileKind::SizeFile) => Ok(String::from_str(
+            alloc,
+            "refused: size: missing\n",
+        )?),
+        Refusal::TooLong(FileKind::SizeFile) => Ok(String::from_str(
+            alloc,
+            "refused: size: too long\n",
+        )?),
         Refusal::Mesh(fault) => unread_line(alloc, fault),
+        Refusal::Size(fault) => unsized_line(alloc, fault),
         Refusal::Accept(fault) => unaccepted_line(alloc, fault),
         Refusal::Rounds { rounds, grid } => rounds_line(alloc, rounds, grid),
     }

@@ -2,6 +2,7 @@
 ghost use Rattle.std.specs.Prelude.{◌≡◌};
 ghost use Rattle.meshadapt.specs.Codes.{code_of};
 
+use job_files::JobFault;
 use mesh_check::MeshFault;
 use msh_read::MshFault;
 
@@ -9,6 +10,7 @@ use msh_read::MshFault;
 #[derive(Clone, Copy, Debug, PartialEq, Eq)]
 pub enum FileKind {
     MeshFile,
+    SizeFile,
 }
 
 /// Why a job is refused. None of these holds want of memory.
@@ -22,6 +24,8 @@ pub enum Refusal {
     Mesh(MshFault),
     /// The mesh in the file isn't accepted.
     Accept(MeshFault),
+    /// The file of sizes can't be read.
+    Size(JobFault),
     /// All coordinates of the mesh are multiples of 2^grid, and of no greater power up to 2^30, and
     /// more rounds than `grid` are asked for.
     Rounds { rounds: u32, grid: u32 },

@@ -22,6 +22,9 @@ const TETRAHEDRON: &str =
 const SPLIT: &str =
     "$MeshFormat\n2.2 0 8\n$EndMeshFormat\n$Nodes\n5\n1 0 0 0\n2 4 0 0\n3 8 0 0\n4 0 8 0\n5 0 0 8\n$EndNodes\n$Elements\n3\n1 1 2 0 5 1 3\n2 4 2 0 1 1 2 4 5\n3 4 2 0 1 2 3 4 5\n$EndElements\n";
 
+/// Size 64 but at the origin.
+const SIZES: &str = "default 64\nbox 0 0 0 0 0 0 4\n";
+
 const MESH_LINE: &str = "mesh: tets 1 nodes 4 marks 0 loose 0\n";
 
 /// The numbers of the fetches, stores and puts that fail.
@@ -43,8 +46,8 @@ fn words_in(alloc: Global, line: &str) -> Result<Vec<String>, Fail> {
     Ok(words)
 }
 
-fn named(alloc: Global, text: &str) -> Result<(String, Vec<u8>), Fail> {
-    let name = String::from_str(alloc, "m.msh")?;
+fn named(alloc: Global, name: &str, text: &str) -> Result<(String, Vec<u8>), Fail> {
+    let name = String::from_str(alloc, name)?;
     Ok((name, Vec::from_slice(alloc, text.as_bytes())?))
 }
 
@@ -56,14 +59,16 @@ fn depot_of(
     stores: &[u64],
 ) -> Result<MemDepot, Fail> {
     let mut files = Vec::new(alloc);
-    files.push(named(alloc, text)?)?;
+    files.push(named(alloc, "m.msh", text)?)?;
+    files.push(named(alloc, "s.size", SIZES)?)?;
+    files.push(named(alloc, "zero.size", "default 4\n\nbox 0 0 0 1 1 1 0\n")?)?;
     assert!(rt; names_differ(files.as_slice()));
     let fetches = Vec::from_slice(alloc, fetches)?;
     let stores = Vec::from_slice(alloc, stores)?;
     Ok(MemDepot::new(alloc, files, fetches, stores))
 }
 
-/// Runs over one file.
+/// Runs over this mesh.
 fn run(
     rt: &impl Abort,
     alloc: Global,
@@ -496,5 +501,70 @@ fn a_million_tetrahedra_are_too_many(rt: HostRuntime) -> Result<(), Fail> {
     let file = file_of(rt.alloc(), nodes, "1 2 3 4;1 2 4 5;1 2 5 6;1 2 6 3")?;
     let words = "--plain --mesh m.msh --uniform 1 --rounds 6 --collapse 0 --swap 0 --out x";
     assert!(rt; ends_past_a_million(&rt, rt.alloc(), words, file.as_str())?);
+    Ok(())
+}
+
+/// Whether a round with sizes from this file is refused for this.
+fn is_unsized(
+    rt: &impl Abort,
+    alloc: Global,
+    name: &str,
+    text: &str,
+    reason: &str,
+) -> Result<bool, Fail> {
+    let words = format!(in alloc;
+        "--plain --mesh m.msh --size {name} --rounds 4 --collapse 0 --swap 0 --out x"
+    )?;
+    is_refused(rt, alloc, words.as_str(), text, reason)
+}
+
+#[test]
+fn a_size_file_is_refused_behind_the_mesh_and_before_the_rounds(
+    rt: HostRuntime,
+) -> Result<(), Fail> {
+    let split = file_of(rt.alloc(), "0 0 0;8 0 0;0 8 0;8 8 0", "1 2 3 4")?;
+    let flat = "mesh: tetrahedron 1 flat";
+    assert!(rt; is_unsized(&rt, rt.alloc(), "none", split.as_str(), flat)?);
+    assert!(rt; is_unsized(&rt, rt.alloc(), "none", MESH, "size: missing")?);
+    assert!(rt;
+        is_unsized(
+            &rt,
+            rt.alloc(),
+            "zero.size",
+            MESH,
+            "size line 3: out of range"
+        )?
+    );
+    assert!(rt; is_unsized(&rt, rt.alloc(), "s.size", MESH, "rounds 4 grid 3")?);
+    Ok(())
+}
+
+#[test]
+fn only_the_edges_at_the_origin_are_long(rt: HostRuntime) -> Result<(), Fail> {
+    let words = "--plain --mesh m.msh --size s.size --rounds 1 --collapse 0 --swap 0 --out x";
+    let nodes = "0 0 0;0 0 4;0 0 8;0 4 0;0 8 0;4 0 0;8 0 0";
+    let refined = file_of(rt.alloc(), nodes, "1 2 6 4;2 3 7 5;2 4 5 7;2 4 7 6")?;
+    let lines =
+        "mesh: tets 1 nodes 4 marks 0 loose 0\nround 1: tets 4 nodes 7 worst 97612893\ndone: plain\n";
+    assert!(rt; becomes(&rt, rt.alloc(), words, MESH, lines, refined.as_str())?);
+    Ok(())
+}
+
+#[test]
+fn a_fetch_of_sizes_that_fails_is_a_read_fault(rt: HostRuntime) -> Result<(), Fail> {
+    let words = "--plain --mesh m.msh --size s.size --rounds 0 --collapse 0 --swap 0 --out x";
+    let fails: Fails<'_> = (&[2], &[], &[]);
+    assert!(rt;
+        leaves(
+            &rt,
+            rt.alloc(),
+            words,
+            MESH,
+            fails,
+            2,
+            "read fault: s.size\n",
+            ""
+        )?
+    );
     Ok(())
 }

@@ -1,10 +1,9 @@
 // A run, from its words to its status.
-ghost use Rattle.std.specs.Prelude.{◌≡◌, map, string_bytes, true};
-ghost use Rattle.size_marks.specs.Field.{is_size};
+ghost use Rattle.std.specs.Prelude.{◌≡◌, map, string_bytes};
 ghost use Rattle.meshadapt.specs.Geometry.{GeometryIsKept};
 ghost use Rattle.meshadapt.specs.Outcome.{AcceptedIsDone, Leaves, RefusalIsAnswered, TooManyIsAnswered, UsageIsAnswered, seen};
 ghost use Rattle.meshadapt.specs.Words.{job_of};
-ghost use Rattle.meshadapt.specs.steps.Running.{Runs, asked};
+ghost use Rattle.meshadapt.specs.steps.Running.{HasSize, Runs, asked};
 
 use crate::fetching::fetch_inputs;
 use crate::halt::Halt;
@@ -24,7 +23,7 @@ fn run_job<D: Depot, S: Sink>(
     depot: &mut D,
     out: &mut S,
 ) -> Result<(), Halt>
-    requires size { is_size job.now.size ≡ true }
+    requires sizes { HasSize job.now.sizes }
     requires collapses { job.now.collapses ≡ 0 }
     requires swaps { job.now.swaps ≡ 0 }
     ensures { Runs result (asked job.now) (seen (D.held depot.old) (S.received out.old)) (seen (D.held depot.new) (S.received out.new)) }

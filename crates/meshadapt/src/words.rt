@@ -1,19 +1,27 @@
 // The command line.
-ghost use Rattle.std.specs.Prelude.{◌≡◌, ◌≤◌, ◌^◌, IfSome, map, string_bytes, true};
+ghost use Rattle.std.specs.Prelude.{◌≡◌, ◌≤◌, ◌^◌, IfSome, map, string_bytes};
 ghost use Rattle.std.specs.Option.{option_map};
-ghost use Rattle.size_marks.specs.Field.{is_size};
-ghost use Rattle.meshadapt.specs.Words.{after_flag, in_range, job_of, number_in, number_of, value_of};
-ghost use Rattle.meshadapt.specs.steps.Running.{asked};
+ghost use Rattle.meshadapt.specs.Words.{after_flag, in_range, job_of, number_in, number_of, size_file_of, sizes_of, uniform_of, value_of};
+ghost use Rattle.meshadapt.specs.steps.Running.{HasSize, asked, sizes_asked};
 
 use ma_text::magnitude;
+
+/// The sizes that edges are to have.
+#[derive(Clone, Copy, Debug)]
+pub enum Sizes<'a> {
+    /// One size everywhere, from 1 to 2^30.
+    Uniform(u32),
+    /// Those in the file of this name.
+    InFile(&'a str),
+}
 
 /// What the words ask for.
 #[derive(Clone, Copy, Debug)]
 pub struct Job<'a> {
     /// The file of the mesh.
     pub mesh: &'a str,
-    /// The size of edges, from 1 to 2^30.
-    pub size: u32,
+    /// The sizes of edges.
+    pub sizes: Sizes<'a>,
     /// How many rounds are run, at most 30.
     pub rounds: u32,
     /// How many collapse passes a round has.
@@ -86,17 +94,47 @@ fn number_of<'a>(
     Some((n, rest))
 }
 
+#[tactic(auto, unfolding(crate::specs::Words::uniform_of))]
+fn uniform_of<'a>(words: &'a [String]) -> Option<(Sizes<'a>, &'a [String])>
+    ensures value { option_map (λ x. (sizes_asked x.0, map string_bytes x.1.now)) result ≡ uniform_of (map string_bytes words.now) }
+    ensures range { IfSome result (λ x. HasSize x.0) }
+{
+    let (size, rest) = number_of("--uniform", 1, 1 << 30, words)?;
+    Some((Sizes::Uniform(size), rest))
+}
+
+#[tactic(auto, unfolding(crate::specs::Words::size_file_of))]
+fn size_file_of<'a>(words: &'a [String]) -> Option<(Sizes<'a>, &'a [String])>
+    ensures value { option_map (λ x. (sizes_asked x.0, map string_bytes x.1.now)) result ≡ size_file_of (map string_bytes words.now) }
+    ensures range { IfSome result (λ x. HasSize x.0) }
+{
+    let (name, rest) = value_of("--size", words)?;
+    Some((Sizes::InFile(name), rest))
+}
+
+/// The sizes, and the words behind them, if they come first.
+#[tactic(auto, unfolding(crate::specs::Words::sizes_of))]
+fn sizes_of<'a>(words: &'a [String]) -> Option<(Sizes<'a>, &'a [String])>
+    ensures value { option_map (λ x. (sizes_asked x.0, map string_bytes x.1.now)) result ≡ sizes_of (map string_bytes words.now) }
+    ensures range { IfSome result (λ x. HasSize x.0) }
+{
+    match uniform_of(words) {
+        Some(found) => Some(found),
+        None => size_file_of(words),
+    }
+}
+
 /// The job that the words ask for. None where they aren't of the one form, in its order.
 #[tactic(auto, unfolding(crate::specs::Words::job_of))]
 pub fn job_of<'a>(words: &'a [String]) -> Option<Job<'a>>
     ensures value { option_map (λ job. asked job) result ≡ job_of (map string_bytes words.now) }
-    ensures size { IfSome result (λ job. is_size job.size ≡ true) }
+    ensures sizes { IfSome result (λ job. HasSize job.sizes) }
     // There are no passes yet.
     ensures passes { IfSome result (λ job. (job.collapses ≡ 0) × (job.swaps ≡ 0)) }
 {
     let options = after_flag("--plain", words)?;
     let (mesh, options) = value_of("--mesh", options)?;
-    let (size, options) = number_of("--uniform", 1, 1 << 30, options)?;
+    let (sizes, options) = sizes_of(options)?;
     let (rounds, options) = number_of("--rounds", 0, 30, options)?;
     let (collapses, options) = number_of("--collapse", 0, 0, options)?;
     let (swaps, options) = number_of("--swap", 0, 0, options)?;
@@ -104,7 +142,7 @@ pub fn job_of<'a>(words: &'a [String]) -> Option<Job<'a>>
     if options.is_empty() {
         Some(Job {
             mesh,
-            size,
+            sizes,
             rounds,
             collapses,
             swaps,

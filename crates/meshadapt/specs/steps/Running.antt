@@ -1,5 +1,5 @@
 -- What the steps of a run leave. No public contract names it, and it is no promise.
-use Rattle.std.specs.Prelude.{◌≡◌, ℕ, ◌+◌, ◌-◌, ◌≤◌, ◌⊎◌, false, List, [], ◌∷◌, ◌++◌, Some, Result, Ok, Err, IfSome, string_bytes}
+use Rattle.std.specs.Prelude.{◌≡◌, ℕ, ◌+◌, ◌-◌, ◌≤◌, ◌⊎◌, true, false, List, [], ◌∷◌, ◌++◌, Some, Result, Ok, Err, IfSome, string_bytes}
 use Rattle.std.specs.FinMap.{insert}
 use Rattle.ma_cells.specs.declared.batch.Batch.{Batch}
 use Rattle.ma_io.specs.Count.{Rose}
@@ -13,11 +13,14 @@ use Rattle.meshadapt.specs.declared.halt.Halt.TheVariants as halt
 use Rattle.meshadapt.specs.declared.status.Status.{Status}
 use Rattle.meshadapt.specs.declared.status.Status.TheVariants.{ReadFault, WriteFault, Refused, TooMany, Memory}
 use Rattle.meshadapt.specs.declared.words.Job.{Job as Words}
+use Rattle.meshadapt.specs.declared.words.Sizes.{Sizes as SizeWords}
+use Rattle.meshadapt.specs.declared.words.Sizes.TheVariants as size_words
+use Rattle.size_marks.specs.Field.{is_size}
 use Rattle.meshadapt.specs.Acts.{Act, PutLine, StoreFile, acts, begun, bytes_of, outputs, round_acts, rounds_among}
 use Rattle.meshadapt.specs.Outcome.{ComesTo, IsVerdict, LeavesDone, LeavesMemory, LeavesUnput, Puts, PutsFront, PutsLast, RefusalCounted, Seen, StoresFront}
-use Rattle.meshadapt.specs.Printed.{file_name, read_fault_line, refused_line, round_line, too_many_line, write_fault_line}
+use Rattle.meshadapt.specs.Printed.{file_name, is_of_job, read_fault_line, refused_line, round_line, too_many_line, write_fault_line}
 use Rattle.meshadapt.specs.Verdict.{Inputs, plan_of}
-use Rattle.meshadapt.specs.Words.{Job}
+use Rattle.meshadapt.specs.Words.{Job, Sizes, Uniform, InFile}
 
 -- a line was put, or a front of it
 abbrev pub PutsLine : {X : Type 0} → Result X Halt → List ℕ → Received → Received → Type 0
@@ -118,7 +121,7 @@ pub record HaltsUnstored (name : List ℕ) (job : Job) (s t : Seen) : Type 0 whe
 -- a run of a job did all of its acts, or before its last line is put has come to this
 abbrev pub Runs : {X : Type 0} → Result X Halt → Job → Seen → Seen → Type 0
 Runs (Ok _) job s t = LeavesDone (Some job) s t
-Runs (Err (halt.Unread file)) job s t = Rose s.depot.fetch_faults t.depot.fetch_faults × IsUntouched s t
+Runs (Err (halt.Unread file)) job s t = (is_of_job job file ≡ true) × Rose s.depot.fetch_faults t.depot.fetch_faults × IsUntouched s t
 Runs (Err (halt.Refused refusal)) job s t = IsVerdict s job (Err refusal) × RefusalCounted refusal s.depot t.depot × IsUntouched s t
 Runs (Err (halt.TooMany round stage count)) job s t = HaltsTooMany round stage count job s t
 Runs (Err (halt.Unstored name)) job s t = HaltsUnstored (string_bytes name) job s t
@@ -138,6 +141,15 @@ Ends status (halt.Unstored name) job s t = EndsAs status WriteFault (write_fault
 Ends status halt.Unput job s t = (status ≡ WriteFault) × (t ≡ s)
 Ends status halt.Memory job s t = status ≡ Memory
 
+abbrev pub sizes_asked : SizeWords → Sizes
+sizes_asked (size_words.Uniform size) = Uniform size
+sizes_asked (size_words.InFile name) = InFile name.now
+
+-- the one size is in range
+abbrev pub HasSize : SizeWords → Type 0
+HasSize (size_words.Uniform size) = is_size size ≡ true
+HasSize (size_words.InFile name) = Unit {0}
+
 -- what the words ask for
 abbrev pub asked : Words → Job
-asked job = record { mesh = job.mesh.now; size = job.size; rounds = job.rounds; collapses = job.collapses; swaps = job.swaps; out = job.out.now }
+asked job = record { mesh = job.mesh.now; sizes = sizes_asked job.sizes; rounds = job.rounds; collapses = job.collapses; swaps = job.swaps; out = job.out.now }
