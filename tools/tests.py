@@ -499,7 +499,7 @@ def wrapper_explains(folder: str):
     wrapper = place / "meshadapt"
     ended = ran(wrapper)
     assert (ended.returncode, ended.stdout) == (1, "usage\n"), ended
-    assert "--plain --mesh M --uniform H" in ended.stderr, ended.stderr
+    assert "--plain --mesh M (--uniform H | --size S)" in ended.stderr, ended.stderr
     words = ("--uniform", 1, "--rounds", 0, "--collapse", 0, "--swap", 0, "--out", f"{folder}/wrapped_out")
     as_msh(f"{folder}/fraction.msh", [*CORNER[:3], (0, 0, 0.5)], [(4, (0, 1), (1, 2, 3, 4))])
     Path(f"{folder}/newer.msh").write_text("$MeshFormat\n4.1 0 8\n$EndMeshFormat\n")
