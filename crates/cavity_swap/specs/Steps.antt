@@ -1,0 +1,50 @@
+-- The way of the code around a ring. No public contract names these.
+use Rattle.std.specs.Prelude.{List, [], ◌∷◌, Option, Some, None, if◌then◌else◌}
+use Rattle.std.specs.Ordering.{is_lt}
+use Rattle.ma_geom.specs.Coordinates.{Coordinates, place_cmp}
+use Rattle.cavity_collapse.specs.Collapsing.{is_same}
+use Rattle.cavity_collapse.specs.Curves.{end_across}
+
+abbrev pub unless_same : Option Coordinates → Coordinates → Option Coordinates → Option Coordinates
+unless_same None p other = other
+unless_same (Some d) p other = if is_same d p then other else Some d
+
+-- the place after p and c: the first that an edge joins with c, besides p
+abbrev pub next : Coordinates → Coordinates → List (List Coordinates) → Option Coordinates
+next p c [] = None
+next p c (edge ∷ edges) = unless_same (end_across c edge) p (next p c edges)
+
+abbrev pub lesser : Option Coordinates → Option Coordinates → Option Coordinates
+lesser None b = b
+lesser (Some p) None = Some p
+lesser (Some p) (Some q) = if is_lt (place_cmp q p) then Some q else Some p
+
+abbrev pub least_end : List Coordinates → Option Coordinates
+least_end (x ∷ y ∷ []) = lesser (Some x) (Some y)
+least_end _ = None
+
+abbrev pub least_corner : List (List Coordinates) → Option Coordinates
+least_corner [] = None
+least_corner (edge ∷ edges) = lesser (least_end edge) (least_corner edges)
+
+abbrev pub least_next : Coordinates → List (List Coordinates) → Option Coordinates
+least_next c [] = None
+least_next c (edge ∷ edges) = lesser (end_across c edge) (least_next c edges)
+
+-- the places after c that a walk comes to, at most as many as the fuel has items, where it goes on to this one, if there is one
+abbrev pub followed : List (List Coordinates) → List (List Coordinates) → Coordinates → Option Coordinates → List Coordinates
+followed [] edges c n = []
+followed (one ∷ fuel) edges c None = []
+followed (one ∷ fuel) edges c (Some n) = n ∷ followed fuel edges n (next c n edges)
+
+abbrev pub walked_on : List (List Coordinates) → List (List Coordinates) → Coordinates → Option Coordinates → List Coordinates
+walked_on fuel edges a None = []
+walked_on fuel edges a (Some b) = a ∷ b ∷ followed fuel edges b (next a b edges)
+
+abbrev pub walked_from : List (List Coordinates) → List (List Coordinates) → Option Coordinates → List Coordinates
+walked_from fuel edges None = []
+walked_from fuel edges (Some a) = walked_on fuel edges a (least_next a edges)
+
+abbrev pub walked : List (List Coordinates) → List Coordinates
+walked (x ∷ y ∷ fuel) = walked_from fuel (x ∷ y ∷ fuel) (least_corner (x ∷ y ∷ fuel))
+walked _ = []

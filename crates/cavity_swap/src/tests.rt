@@ -1,0 +1,1 @@
+// Values that were worked out by hand.
