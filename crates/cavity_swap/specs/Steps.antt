@@ -1,9 +1,12 @@
 -- The way of the code around a ring. No public contract names these.
-use Rattle.std.specs.Prelude.{List, [], ◌∷◌, Option, Some, None, if◌then◌else◌}
+use Rattle.std.specs.Prelude.{Bool, ◌==◌, List, [], ◌∷◌, length, Option, Some, None, if◌then◌else◌}
 use Rattle.std.specs.Ordering.{is_lt}
 use Rattle.ma_geom.specs.Coordinates.{Coordinates, place_cmp}
 use Rattle.cavity_collapse.specs.Collapsing.{is_same}
 use Rattle.cavity_collapse.specs.Curves.{end_across}
+
+abbrev pub is_pair : List Coordinates → Bool
+is_pair places = length places == 2
 
 abbrev pub unless_same : Option Coordinates → Coordinates → Option Coordinates → Option Coordinates
 unless_same None p other = other

@@ -2,7 +2,11 @@
 #![tactic(auto)]
 
 mod places;
+mod rings;
+mod sets;
 mod walks;
+
+pub use rings::{Ring, ring_around, ring_of};
 
 #[cfg(test)]
 mod tests;
