@@ -1,5 +1,5 @@
 -- A set that grows by one item after the other.
-use Rattle.std.proofs.Common.{◌≡◌, ℕ, zero, suc, ◌<◌, ◌≤◌, Bool, true, false, cond, ◌||◌, List, [], ◌∷◌, ◌++◌, length, take, drop, get_or, refl, sym, ap, subst, ◌∙◌, arith}
+use Rattle.std.proofs.Common.{◌≡◌, ℕ, zero, suc, ◌+◌, ◌<◌, ◌≤◌, Bool, true, false, cond, ◌||◌, List, [], ◌∷◌, ◌++◌, length, take, drop, get_or, refl, sym, ap, subst, ◌∙◌, arith}
 use Rattle.std.specs.Prelude.{Result, Ok, Err}
 use Rattle.std.specs.Cmp.{IsTotalOrder}
 use Rattle.std.specs.FinMap.{IsAntisymmetric}
@@ -8,9 +8,12 @@ use Rattle.std.specs.Ordering.{is_eq, is_lt, ordering_reverse}
 use Rattle.std.specs.declared.cmp.Ordering.{Ordering}
 use Rattle.std.specs.declared.cmp.Ordering.TheVariants.{Less, Equal, Greater}
 use Rattle.std.proofs.lemmas.Bool.{false≢true}
+use Rattle.std.proofs.lemmas.List.{take-append-drop, take_more}
 use Rattle.std.proofs.lemmas.List.Sorted.{IsPermutation-append_comm, searchable_from_sorted}
 use Rattle.ma_cells.specs.Ascending.{ascending_of, has, put}
+use Rattle.std.proofs.lemmas.Map.Keys.{Less-from_sorted}
 use Rattle.ma_cells.proofs.Ascents.{all_below, ascending_of-IsPermutation, has-below}
+use Rattle.ma_cells.proofs.Searches.{searched_is}
 
 module _ {K : Type 0} {R : K → K → Ordering} (o : IsTotalOrder R) where
   -- an item that is there already
@@ -34,6 +37,29 @@ module _ {K : Type 0} {R : K → K → Ordering} (o : IsTotalOrder R) where
       let greater : R x y ≡ Greater = o.antisymm x y ∙ ap ordering_reverse (below zero y (omega arith)) in
       rw (greater) (ap (λ l. y ∷ l) (put_at x ys i (omega (arith, h)) (λ k d less. below (suc k) d (omega (arith, less))) (λ k d low high. above (suc k) d (omega (arith, low)) (omega (arith, high)))))
 
+  rises : (ys : List K) → IsStrictlySortedBy R ys → IsSorted R ys
+  rises ys s k d low high =
+      let less = Less-from_sorted R ys k (k + 1) d s (omega arith) high in
+      ap is_lt (o.antisymm (get_or ys (k + 1) d) (get_or ys k d) ∙ ap ordering_reverse less)
+
+  -- by what a binary search says
+  pub put_found : (x : K) (ys : List K) (i : ℕ) → IsStrictlySortedBy R ys → i < length ys → IsBinarySearchResult (λ y. R y x) ys (Ok i) → put R x ys ≡ ys
+  put_found x ys i s within found = put_there x ys s (sym (searched_is o x ys (Ok i) s within found))
+
+  pub put_missed : (x : K) (ys : List K) (i : ℕ) → IsStrictlySortedBy R ys → i ≤ length ys → IsBinarySearchResult (λ y. R y x) ys (Err i) → put R x ys ≡ take i ys ++ x ∷ drop i ys
+  put_missed x ys i s within missed =
+      let parts = missed (searchable_from_sorted o (λ y. y) ys x (rises ys s)) in
+      put_at x ys i within (λ k d before. parts.0 k d (omega arith) before) (λ k d behind high. parts.1 k d behind high)
+
+  length_more : (x : K) (ys : List K) (i : ℕ) → length (take i ys ++ x ∷ drop i ys) ≡ suc (length ys)
+  length_more x [] zero = refl
+  length_more x [] (suc i) = refl
+  length_more x (y ∷ ys) zero = refl
+  length_more x (y ∷ ys) (suc i) = ap suc (length_more x ys i)
+
+  pub longer_missed : (x : K) (ys : List K) (i : ℕ) → IsStrictlySortedBy R ys → i ≤ length ys → IsBinarySearchResult (λ y. R y x) ys (Err i) → length (put R x ys) ≡ suc (length ys)
+  longer_missed x ys i s within missed = ap length (put_missed x ys i s within missed) ∙ length_more x ys i
+
   module _ (exact : IsAntisymmetric R) where
     -- the order in which they come changes nothing
     pub one_more : (xs : List K) (x : K) → ascending_of R (xs ++ x ∷ []) ≡ put R x (ascending_of R xs)
@@ -56,3 +82,15 @@ module _ {K : Type 0} {R : K → K → Ordering} (o : IsTotalOrder R) where
 
     pub longer : (xs ys : List K) → length (ascending_of R xs) ≤ length (ascending_of R (xs ++ ys))
     longer xs ys = subst (λ l. length (ascending_of R xs) ≤ length l) (ascending_of-IsPermutation o exact (ys ++ xs) (xs ++ ys) (IsPermutation-append_comm ys xs)) (longer_before ys xs)
+
+    -- the next item of a list, where the set has those before
+    pub next_in : (star : List K) (i : ℕ) (x : K) (ys : List K) → i < length star → x ≡ get_or star i x → ys ≡ ascending_of R (take i star) → ascending_of R (take (i + 1) star) ≡ put R x ys
+    next_in star i x ys within is so_far =
+        ap (ascending_of R) (take_more star i x within ∙ ap (λ y. take i star ++ y ∷ []) (sym is)) ∙ one_more (take i star) x ∙ ap (put R x) (sym so_far)
+
+    pub too_long : (star : List K) (i n : ℕ) (x : K) (ys : List K) → i < length star → x ≡ get_or star i x → ys ≡ ascending_of R (take i star) → n < length (put R x ys) → n < length (ascending_of R star)
+    too_long star i n x ys within is so_far more =
+        let grown : length (ascending_of R (take (i + 1) star)) ≡ length (put R x ys) = ap length (next_in star i x ys within is so_far) in
+        let whole : length (ascending_of R (take (i + 1) star)) ≤ length (ascending_of R star)
+        = subst (λ l. length (ascending_of R (take (i + 1) star)) ≤ length (ascending_of R l)) (take-append-drop (i + 1) star) (longer (take (i + 1) star) (drop (i + 1) star)) in
+        omega (arith, grown, whole, more)

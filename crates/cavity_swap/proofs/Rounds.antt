@@ -15,7 +15,7 @@ use Rattle.ma_cells.proofs.Permutations.{apart, same, tied, alone}
 use Rattle.cavity_collapse.specs.Collapsing.{is_same}
 use Rattle.cavity_collapse.specs.Curves.{end_across}
 use Rattle.cavity_swap.specs.Rings.{IsRing, closes, starts_least, is_along, is_path, is_ring, joins, last_of}
-use Rattle.cavity_swap.specs.Steps.{followed, least_corner, least_end, least_next, lesser, next, unless_same, walked}
+use Rattle.cavity_swap.specs.Steps.{followed, is_pair, least_corner, least_end, least_next, lesser, next, unless_same, walked}
 
 -- ---- edges by their ends
 abbrev Ends : Coordinates → Coordinates → List Coordinates → Type 0
@@ -320,3 +320,40 @@ no_other edges h corners =
       | true ↦ λ e. absurd (false≢true (sym h ∙ ap (is_ring edges) (walked_is edges corners e) ∙ e))
       | false ↦ λ _. refl
     ] refl
+
+-- ---- what isn't a pair is no edge of a ring
+not_along : (end : Coordinates) (path edge : List Coordinates) → is_pair edge ≡ false → is_along end path edge ≡ false
+not_along end [] edge h = refl
+not_along end (p ∷ []) [] h = refl
+not_along end (p ∷ []) (x ∷ []) h = refl
+not_along end (p ∷ []) (x ∷ y ∷ []) h = absurd (false≢true (sym h))
+not_along end (p ∷ []) (x ∷ y ∷ z ∷ edge) h = refl
+not_along end (p ∷ q ∷ rest) [] h = not_along end (q ∷ rest) [] h
+not_along end (p ∷ q ∷ rest) (x ∷ []) h = not_along end (q ∷ rest) (x ∷ []) h
+not_along end (p ∷ q ∷ rest) (x ∷ y ∷ []) h = absurd (false≢true (sym h))
+not_along end (p ∷ q ∷ rest) (x ∷ y ∷ z ∷ edge) h = not_along end (q ∷ rest) (x ∷ y ∷ z ∷ edge) h
+
+some_not_along : (end : Coordinates) (path : List Coordinates) (edges : List (List Coordinates)) → list_all is_pair edges ≡ false → list_all (is_along end path) edges ≡ false
+some_not_along end path [] h = absurd (false≢true (sym h))
+some_not_along end path (edge ∷ edges) h =
+    elim (is_pair edge) as (λ b. is_pair edge ≡ b → (b && list_all is_pair edges) ≡ false → list_all (is_along end path) (edge ∷ edges) ≡ false) [
+      | true ↦ λ _ k. rw (some_not_along end path edges k) (elim (is_along end path edge) as (λ b. (b && false) ≡ false) [ true ↦ refl | false ↦ refl ])
+      | false ↦ λ e _. rw (not_along end path edge e) refl
+    ] refl h
+
+pub no_ring_of_others : (edges : List (List Coordinates)) → list_all is_pair edges ≡ false → (corners : List Coordinates) → is_ring edges corners ≡ false
+no_ring_of_others edges h corners =
+    elim (is_ring edges corners) as (λ b. is_ring edges corners ≡ b → b ≡ false) [
+      | true ↦ λ e. absurd (false≢true (sym (open corners (closing corners e)) ∙ closing corners e))
+      | false ↦ λ _. refl
+    ] refl
+  where
+    closing : (corners : List Coordinates) → is_ring edges corners ≡ true → closes edges corners ≡ true
+    closing corners e =
+        let halves = and_parts (nat_le 3 (length corners) && nat_le (length corners) 7 && length edges == length corners) _ e in
+        let shape = and_parts (are_distinct place_cmp corners) _ halves.1 in
+        (and_parts (starts_least corners) (closes edges corners) shape.1).1
+
+    open : (corners : List Coordinates) → closes edges corners ≡ true → closes edges corners ≡ false
+    open [] e = refl
+    open (p ∷ rest) e = rw (some_not_along p (p ∷ rest) edges h) (elim (is_path edges p (p ∷ rest)) as (λ b. (b && false) ≡ false) [ true ↦ refl | false ↦ refl ])

@@ -1,9 +1,13 @@
--- The way of the code around a ring. No public contract names these.
-use Rattle.std.specs.Prelude.{Bool, ◌==◌, List, [], ◌∷◌, length, Option, Some, None, if◌then◌else◌}
+-- The way of the code around a ring and over the faces of a cavity. No public contract names these.
+use Rattle.std.specs.Prelude.{ℕ, Bool, ◌==◌, List, [], ◌∷◌, length, Option, Some, None, if◌then◌else◌}
 use Rattle.std.specs.Ordering.{is_lt}
 use Rattle.ma_geom.specs.Coordinates.{Coordinates, place_cmp}
+use Rattle.ma_cells.specs.Faces.{faces_of}
+use Rattle.ma_cells.specs.Tetrahedron.{Tetrahedron, tetrahedron_of}
 use Rattle.cavity_collapse.specs.Collapsing.{is_same}
 use Rattle.cavity_collapse.specs.Curves.{end_across}
+use Rattle.cavity_collapse.specs.Steps.{worst_with}
+use Rattle.cavity_swap.specs.Swapping.{had_by}
 
 abbrev pub is_pair : List Coordinates → Bool
 is_pair places = length places == 2
@@ -51,3 +55,17 @@ walked_from fuel edges (Some a) = walked_on fuel edges a (least_next a edges)
 abbrev pub walked : List (List Coordinates) → List Coordinates
 walked (x ∷ y ∷ fuel) = walked_from fuel (x ∷ y ∷ fuel) (least_corner (x ∷ y ∷ fuel))
 walked _ = []
+
+-- the tetrahedron from v over a face that one tetrahedron of the cavity alone has
+abbrev pub outer_cone : List Tetrahedron → Tetrahedron → Coordinates → List Coordinates → Option Tetrahedron
+outer_cone cavity first v face = if had_by cavity face == 1 then tetrahedron_of (v ∷ face) first.phys first.elem else None
+
+-- the least of a quality and those of the tetrahedra over these faces
+abbrev pub worst_over_faces : List Tetrahedron → Tetrahedron → Coordinates → Option ℕ → List (List Coordinates) → Option ℕ
+worst_over_faces cavity first v w [] = w
+worst_over_faces cavity first v w (face ∷ faces) = worst_over_faces cavity first v (worst_with w (outer_cone cavity first v face)) faces
+
+-- the same over the faces of these tetrahedra
+abbrev pub worst_over : List Tetrahedron → Tetrahedron → Coordinates → Option ℕ → List Tetrahedron → Option ℕ
+worst_over cavity first v w [] = w
+worst_over cavity first v w (tet ∷ tets) = worst_over cavity first v (worst_over_faces cavity first v w (faces_of tet.corners)) tets

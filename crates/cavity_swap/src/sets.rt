@@ -15,7 +15,11 @@ fn put(cavity: &mut ArrayVec<Tet, 7>, tet: &Tet) -> bool
 {
     match cavity.as_slice().binary_search(tet) {
         Ok(_) => true,
-        Err(place) => cavity.try_insert(place, *tet).is_ok(),
+        Err(_) if cavity.is_full() => false,
+        Err(place) => {
+            cavity.insert(place, *tet);
+            true
+        }
     }
 }
 
