@@ -344,7 +344,7 @@ some_not_along end path (edge ∷ edges) h =
 pub no_ring_of_others : (edges : List (List Coordinates)) → list_all is_pair edges ≡ false → (corners : List Coordinates) → is_ring edges corners ≡ false
 no_ring_of_others edges h corners =
     elim (is_ring edges corners) as (λ b. is_ring edges corners ≡ b → b ≡ false) [
-      | true ↦ λ e. absurd (false≢true (sym (open corners (closing corners e)) ∙ closing corners e))
+      | true ↦ λ e. absurd (false≢true (sym (shut corners (closing corners e)) ∙ closing corners e))
       | false ↦ λ _. refl
     ] refl
   where
@@ -354,6 +354,6 @@ no_ring_of_others edges h corners =
         let shape = and_parts (are_distinct place_cmp corners) _ halves.1 in
         (and_parts (starts_least corners) (closes edges corners) shape.1).1
 
-    open : (corners : List Coordinates) → closes edges corners ≡ true → closes edges corners ≡ false
-    open [] e = refl
-    open (p ∷ rest) e = rw (some_not_along p (p ∷ rest) edges h) (elim (is_path edges p (p ∷ rest)) as (λ b. (b && false) ≡ false) [ true ↦ refl | false ↦ refl ])
+    shut : (corners : List Coordinates) → closes edges corners ≡ true → closes edges corners ≡ false
+    shut [] e = refl
+    shut (p ∷ rest) e = rw (some_not_along p (p ∷ rest) edges h) (elim (is_path edges p (p ∷ rest)) as (λ b. (b && false) ≡ false) [ true ↦ refl | false ↦ refl ])

@@ -80,20 +80,20 @@ in_marked_faces : judged around (face o t s ∷ face t s b ∷ []) o b t ≡ Leg
 unfolding worst quality_of root longest2 vol6 len2 normal
 in_marked_faces = refl
 
-past_a_side : judged_pair (tet o s r b) (tet o t r b) [] s ≡ Illegal 3
+past_a_side : judged_pair (tet o s r b ∷ tet o t r b ∷ []) [] s ≡ Illegal 3
 unfolding worst quality_of root longest2 vol6 len2 normal
 past_a_side = refl
 
 -- ---- pairs
-good_enough : judged_pair (tet o (at_ 0 0 16) (at_ 0 16 8) (at_ 16 8 0)) (tet (at_ 0 0 16) (at_ 0 16 8) (at_ 8 16 16) (at_ 16 8 0)) [] o ≡ Illegal 4
+good_enough : judged_pair (tet o (at_ 0 0 16) (at_ 0 16 8) (at_ 16 8 0) ∷ tet (at_ 0 0 16) (at_ 0 16 8) (at_ 8 16 16) (at_ 16 8 0) ∷ []) [] o ≡ Illegal 4
 unfolding worst quality_of root longest2 vol6 len2 normal
 good_enough = refl
 
-no_better : judged_pair (tet (at_ 8 0 24) (at_ 8 24 0) (at_ 16 8 8) (at_ 16 24 24)) (tet (at_ 8 24 0) (at_ 16 8 8) (at_ 16 24 0) (at_ 16 24 24)) [] (at_ 8 0 24) ≡ Illegal 5
+no_better : judged_pair (tet (at_ 8 0 24) (at_ 8 24 0) (at_ 16 8 8) (at_ 16 24 24) ∷ tet (at_ 8 24 0) (at_ 16 8 8) (at_ 16 24 0) (at_ 16 24 24) ∷ []) [] (at_ 8 0 24) ≡ Illegal 5
 unfolding worst quality_of root longest2 vol6 len2 normal
 no_better = refl
 
-face_to_its_edge : judged_pair (tet (at_ 0 8 0) (at_ 16 0 8) (at_ 16 32 32) (at_ 24 32 0)) (tet (at_ 0 8 0) (at_ 16 32 8) (at_ 16 32 32) (at_ 24 32 0)) [] (at_ 16 0 8) ≡ Legal 103079215
+face_to_its_edge : judged_pair (tet (at_ 0 8 0) (at_ 16 0 8) (at_ 16 32 32) (at_ 24 32 0) ∷ tet (at_ 0 8 0) (at_ 16 32 8) (at_ 16 32 32) (at_ 24 32 0) ∷ []) [] (at_ 16 0 8) ≡ Legal 103079215
 unfolding worst quality_of root longest2 vol6 len2 normal
 face_to_its_edge = refl
 

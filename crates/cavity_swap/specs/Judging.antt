@@ -42,9 +42,10 @@ abbrev pub judged_swap : List Tetrahedron → List CellMark → (at : List Coord
 judged_swap cavity marks at v = verdict_of (worst (swapped v cavity)) (first_failing 1 (swap_tests cavity marks at v))
 
 -- the corners that two tetrahedra share, in ascending order
-abbrev pub shared_by : Tetrahedron → Tetrahedron → List Coordinates
-shared_by s t = filter (λ p. has place_cmp p t.corners) s.corners
+abbrev pub shared_by : List Tetrahedron → List Coordinates
+shared_by (s ∷ t ∷ []) = filter (λ p. has place_cmp p t.corners) s.corners
+shared_by _ = []
 
--- the same of a pair of tetrahedra, whose face is taken away
-abbrev pub judged_pair : Tetrahedron → Tetrahedron → List CellMark → Coordinates → Verdict
-judged_pair s t marks v = judged_swap (ascending_of tet_cmp (s ∷ t ∷ [])) marks (shared_by s t) v
+-- the same of two tetrahedra, where the face that they share is taken away
+abbrev pub judged_pair : List Tetrahedron → List CellMark → Coordinates → Verdict
+judged_pair pair marks v = judged_swap (ascending_of tet_cmp pair) marks (shared_by pair) v

@@ -1,7 +1,10 @@
 -- The way of the code around a ring and over the faces of a cavity. No public contract names these.
-use Rattle.std.specs.Prelude.{ℕ, Bool, ◌==◌, List, [], ◌∷◌, length, Option, Some, None, if◌then◌else◌}
+use Rattle.std.specs.Prelude.{ℕ, Bool, not, ◌==◌, ◌||◌, List, [], ◌∷◌, length, Option, Some, None, if◌then◌else◌}
+use Rattle.std.specs.List.{list_all}
 use Rattle.std.specs.Ordering.{is_lt}
 use Rattle.ma_geom.specs.Coordinates.{Coordinates, place_cmp}
+use Rattle.ma_geom.specs.Signs.{same_sign, side_of}
+use Rattle.ma_cells.specs.Ascending.{has}
 use Rattle.ma_cells.specs.Faces.{faces_of}
 use Rattle.ma_cells.specs.Tetrahedron.{Tetrahedron, tetrahedron_of}
 use Rattle.cavity_collapse.specs.Collapsing.{is_same}
@@ -69,3 +72,14 @@ worst_over_faces cavity first v w (face ∷ faces) = worst_over_faces cavity fir
 abbrev pub worst_over : List Tetrahedron → Tetrahedron → Coordinates → Option ℕ → List Tetrahedron → Option ℕ
 worst_over cavity first v w [] = w
 worst_over cavity first v w (tet ∷ tets) = worst_over cavity first v (worst_over_faces cavity first v w (faces_of tet.corners)) tets
+
+-- whether d is on a face, or v lies on its side
+abbrev pub is_beside : List Coordinates → (v d : Coordinates) → Bool
+is_beside face v d = has place_cmp d face || same_sign (side_of face v) (side_of face d)
+
+-- whether a face of a tetrahedron with these corners has v or v lies on the side of the other corner
+abbrev pub is_seen_from : Coordinates → (corners face : List Coordinates) → Bool
+is_seen_from v corners face = has place_cmp v face || list_all (is_beside face v) corners
+
+abbrev pub are_seen : List Tetrahedron → Coordinates → Bool
+are_seen cavity v = list_all (λ tet. list_all (λ face. not (had_by cavity face == 1) || is_seen_from v tet.corners face) (faces_of tet.corners)) cavity

@@ -30,11 +30,18 @@ pub(crate) fn is_outer(cavity: &[Tet], face: [Place; 3]) -> bool
     had_by(cavity, face) == 1
 }
 
-fn cone(v: Place, face: [Place; 3], phys: i32, elem: i32) -> Option<Tet>
-    ensures { result ≡ tetrahedron_of (v ∷ face) phys elem }
+/// The tetrahedron with these corners and the region of another one.
+fn alike(corners: [Place; 4], first: &Tet) -> Option<Tet>
+    ensures { result ≡ tetrahedron_of corners first.now.phys first.now.elem }
+{
+    Tet::new(corners, first.phys(), first.elem())
+}
+
+fn cone(v: Place, face: [Place; 3], first: &Tet) -> Option<Tet>
+    ensures { result ≡ tetrahedron_of (v ∷ face) first.now.phys first.now.elem }
 {
     let [x, y, z] = face;
-    Tet::new([v, x, y, z], phys, elem)
+    alike([v, x, y, z], first)
 }
 
 /// The tetrahedron from `v` over an outer face, with the region of another one, unless it is flat.
@@ -42,7 +49,7 @@ fn outer_cone(cavity: &[Tet], first: &Tet, v: Place, face: [Place; 3]) -> Option
     ensures { result ≡ outer_cone cavity.now first.now v face }
 {
     if is_outer(cavity, face) {
-        cone(v, face, first.phys(), first.elem())
+        cone(v, face, first)
     } else {
         None
     }
@@ -134,12 +141,24 @@ fn push_cones(
     }
 }
 
+fn push_cones_of(
+    tets: &mut Vec<Tet>,
+    cavity: &[Tet],
+    first: &Tet,
+    v: Place,
+    tet: &Tet,
+) -> Result<(), Memory>
+    ensures { OnOk result (tets.new.items ≡ tets.old.items ++ flat_map (cone v first.now.phys first.now.elem) (outer_faces cavity.now tet.now)) }
+{
+    push_cones(tets, cavity, first, v, &tet.faces())
+}
+
 fn cones(alloc: Global, cavity: &[Tet], first: &Tet, v: Place) -> Result<Vec<Tet>, Memory>
     ensures { IfOk result (λ tets. tets.items ≡ flat_map (λ tet. flat_map (cone v first.now.phys first.now.elem) (outer_faces cavity.now tet)) cavity.now) }
 {
     let mut tets = Vec::with_capacity(alloc, cavity.len())?;
     for tet in cavity {
-        push_cones(&mut tets, cavity, first, v, &tet.faces())?;
+        push_cones_of(&mut tets, cavity, first, v, tet)?;
     }
     Ok(tets)
 }
