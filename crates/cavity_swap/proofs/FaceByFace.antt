@@ -23,8 +23,7 @@ use Rattle.cavity_swap.specs.Swapping.{had_by, outer_faces, swapped}
 pub front_is : {X : Type 0} (x : X) (xs : List X) → 1 ≤ length xs → x ≡ get_or xs 0 x → xs ≡ x ∷ take (length xs - 1) (drop 1 xs)
 front_is x [] h e = absurd (omega (arith, h))
 front_is x (y ∷ ys) h e =
-    let one_less : length (y ∷ ys) - 1 ≡ length ys = omega arith in
-    let whole : take (length (y ∷ ys) - 1) ys ≡ ys = ap (λ n. take n ys) one_less ∙ take_all ys in
+    let whole : take (length (y ∷ ys) - 1) ys ≡ ys = take_all (length (y ∷ ys) - 1) ys (omega arith) in
     λ i. sym e i ∷ sym whole i
 
 min_join : (n m l : ℕ) → min (min n m) l ≡ min n (min m l)

@@ -1,5 +1,6 @@
 use Rattle.std.proofs.Common.{◌≡◌, ◌<◌, ◌≤◌, ◌+◌, ◌∷◌, ◌++◌, List, length, take, drop, suc, sym, subst, ◌∙◌, arith}
 use Rattle.std.specs.List.Sorted.{IsStrictlySortedBy}
+use Rattle.std.proofs.lemmas.Bool.{eqb-true}
 use Rattle.ma_cells.specs.Ascending.{put}
 use Rattle.ma_cells.specs.Tetrahedron.{Tetrahedron, tet_cmp}
 use Rattle.ma_cells.proofs.CellOrders.{tet_cmp_total}
@@ -16,7 +17,8 @@ returns-in-Err-clause-full c = λ _.
     let grown : length (put tet_cmp c.args.tet.now c.args.cavity.now.items) ≡ suc (length c.args.cavity.now.items)
     = subst (λ (ys : List Tetrahedron). length (put tet_cmp c.args.tet.now ys) ≡ suc (length ys)) c.as_slice.ensures.value
     (longer_missed tet_cmp_total c.args.tet.now c.as_slice.result.now _ (subst (IsStrictlySortedBy tet_cmp) (sym c.as_slice.ensures.value) c.requires) c.in-Err.ensures.bound c.in-Err.ensures.position) in
-    omega (arith, grown, c.if-is_full.ensures.value)
+    let full : length c.args.cavity.now.items ≡ 7 = eqb-true _ _ (sym c.is_full.ensures.value ∙ c.if-is_full.true) in
+    omega (arith, grown, full)
 
 pub returns-in-Err-2-clause-put : goal.returns-in-Err-2-clause-put
 returns-in-Err-2-clause-put c = λ _.
