@@ -1,5 +1,5 @@
 -- What fills a cavity, face by face.
-use Rattle.std.proofs.Common.{◌≡◌, ℕ, ◌==◌, ◌≤◌, ◌-◌, Bool, true, false, not, cond, ◌&&◌, ◌||◌, min, List, [], ◌∷◌, ◌++◌, length, map, get_or, take, drop, filter, Option, Some, None, refl, sym, ap, subst, ◌∙◌, arith}
+use Rattle.std.proofs.Common.{◌≡◌, ℕ, ◌==◌, ◌≤◌, ◌-◌, true, false, not, cond, ◌&&◌, ◌||◌, min, List, [], ◌∷◌, ◌++◌, length, get_or, take, drop, filter, Option, Some, None, refl, sym, ap, subst, ◌∙◌, arith}
 use Rattle.std.specs.List.{flat_map, list_all}
 use Rattle.std.specs.Option.{option_to_list, unwrap_or}
 use Rattle.std.proofs.lemmas.List.{map-append, take_all}

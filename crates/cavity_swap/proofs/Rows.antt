@@ -1,5 +1,5 @@
 -- The definitions at values that were worked out by hand.
-use Rattle.std.proofs.Common.{◌≡◌, ℕ, pos, true, List, [], ◌∷◌, refl}
+use Rattle.std.proofs.Common.{◌≡◌, ℕ, pos, List, [], ◌∷◌, refl}
 use Rattle.ma_geom.specs.Coordinates.{Coordinates}
 use Rattle.ma_geom.specs.Lengths.{len2}
 use Rattle.ma_geom.specs.Lines.{normal}

@@ -98,13 +98,7 @@ fn may_go(cavity: &[Tet], marks: &[Mark], at: &[Place], v: Place, old: u32) -> b
 
 /// The least quality of the new tetrahedra, where a swap as in `judge_with` is legal. It takes no
 /// memory, and the tests that cost less come first.
-pub fn legal_with(
-    cavity: &[Tet],
-    marks: &[Mark],
-    at: &[Place],
-    v: Place,
-    old: u32,
-) -> Option<u32>
+pub fn legal_with(cavity: &[Tet], marks: &[Mark], at: &[Place], v: Place, old: u32) -> Option<u32>
     requires { old ≡ worst cavity.now }
     ensures { result ≡ legal_quality (judged_swap cavity.now marks.now at.now v) }
 {

@@ -108,6 +108,9 @@ fn the_known_quality_of_a_cavity_gives_the_same_verdict(rt: HostRuntime) {
 #[test]
 fn two_tetrahedra_fill_the_place_of_three(rt: HostRuntime) -> Result<(), Fail> {
     let left = result(rt.alloc(), &around(), at(T))?;
-    assert_eq!(rt; left.as_slice(), [tet([O, T, S, R]), tet([T, S, R, B])].as_slice());
+    assert_eq!(rt;
+        left.as_slice(),
+        [tet([O, T, S, R]), tet([T, S, R, B])].as_slice()
+    );
     Ok(())
 }
