@@ -1,0 +1,5 @@
+pub mod Choosing
+pub mod Changes
+pub mod Moves
+pub mod Passes
+pub mod Taking

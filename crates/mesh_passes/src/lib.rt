@@ -1,0 +1,2 @@
+//! Passes over a mesh: which of many operations are made, and the mesh that they leave.
+#![tactic(auto)]
