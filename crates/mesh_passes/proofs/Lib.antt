@@ -1,1 +1,5 @@
+pub mod AnyOrder
+pub mod Apart
+pub mod AtOnce
 mod Rows
+pub mod Taken

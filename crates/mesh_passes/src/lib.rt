@@ -1,2 +1,7 @@
 //! Passes over a mesh: which of many operations are made, and the mesh that they leave.
 #![tactic(auto)]
+
+mod choosing;
+pub mod laws;
+
+pub use choosing::winners;
