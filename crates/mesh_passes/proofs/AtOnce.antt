@@ -10,7 +10,6 @@ use Rattle.std.specs.Ordering.{eq_by_cmp}
 use Rattle.std.proofs.lemmas.List.Folds.{list_any-append}
 use Rattle.ma_cells.specs.Ascending.{ascending_of, has}
 use Rattle.ma_cells.proofs.Ascents.{has-ascending_of, sorted-ascending_of, is-ascending_of}
-use Rattle.ma_cells.proofs.CellOrders.{tet_cmp-IsAntisymmetric, tet_cmp_total}
 use Rattle.mesh_passes.specs.Changes.{AreFree, Change, changed, changed_at_once, changed_in_turn, without}
 use Rattle.ma_cells.proofs.Members.{has-filter}
 

@@ -16,14 +16,6 @@ use Rattle.mesh_passes.specs.Taking.{are_free, positions_from, taken_at}
 use Rattle.cavity_rank.proofs.Ranked.{rank_total}
 
 -- ---- positions
-positions-cons : {X : Type 0} (k : ℕ) (test : X → Bool) (x : X) (xs : List X) → positions_from k test (x ∷ xs) ≡ (if test x then k ∷ [] else []) ++ positions_from (k + 1) test xs
-positions-cons k test x xs = elim (test x) as (λ b. cond b (k ∷ positions_from (k + 1) test xs) (positions_from (k + 1) test xs) ≡ cond b (k ∷ []) [] ++ positions_from (k + 1) test xs) [ true ↦ refl | false ↦ refl ]
-
-pub positions_step : {X : Type 0} (test : X → Bool) (xs : List X) (before after : List ℕ) (i : ℕ) (x : X) → i < length xs → x ≡ get_or xs i x → (b : Bool) → b ≡ test x
-    → after ≡ before ++ (if b then i ∷ [] else []) → after ++ positions_from (i + 1) test (drop (i + 1) xs) ≡ before ++ positions_from i test (drop i xs)
-positions_step test xs before after i x within at b is e =
-    rw (e, drop_more xs i x within, sym at, is) (append_assoc before (if test x then i ∷ [] else []) _ ∙ ap (λ r. before ++ r) (sym (positions-cons i test x (drop (i + 1) xs))))
-
 pub positions_bound : {X : Type 0} (k : ℕ) (test : X → Bool) (xs : List X) → AllByRecursion (λ i. i < k + length xs) (positions_from k test xs)
 positions_bound k test [] = tt
 positions_bound k test (x ∷ xs) =

@@ -2,4 +2,5 @@ pub mod Choosing
 pub mod Changes
 pub mod Moves
 pub mod Passes
+pub mod Tables
 pub mod Taking

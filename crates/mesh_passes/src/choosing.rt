@@ -2,41 +2,17 @@
 ghost use Rattle.std.specs.Prelude.{◌≡◌, ◌<◌, ◌++◌, ◌∷◌, [], IfOk, OnOk, length, map, if◌then◌else◌};
 ghost use Rattle.std.specs.List.{All};
 ghost use Rattle.std.specs.List.Sorted.{IsStrictlySortedBy};
+ghost use Rattle.ma_cells.specs.Ascending.{ascending_of};
 ghost use Rattle.cavity_rank.specs.Operations.{rank};
 ghost use Rattle.mesh_passes.specs.Choosing.{is_in, is_taken, winners, wins};
+ghost use Rattle.mesh_passes.specs.Tables.{corner_cmp, corners_from};
 ghost use Rattle.mesh_passes.specs.Taking.{are_free, positions_from, taken_at};
 
+use crate::places::Places;
 use cavity_rank::Operation;
 use ma_cells::{Ascending, Tet};
 use ma_geom::Memory;
 use std::alloc::Global;
-
-fn is_in(op: &Operation, tet: &Tet) -> bool
-    ensures { result ≡ is_in op.now tet.now }
-{
-    tet.holds(op.at())
-}
-
-fn push_if(at: &mut Vec<usize>, i: usize, is_wanted: bool) -> Result<(), Memory>
-    ensures { OnOk result (at.new.items ≡ at.old.items ++ (if is_wanted then i ∷ [] else [])) }
-{
-    if is_wanted {
-        at.push(i)?;
-    }
-    Ok(())
-}
-
-/// Where the tetrahedra of a cavity stand.
-fn positions(alloc: Global, op: &Operation, tets: &[Tet]) -> Result<Vec<usize>, Memory>
-    ensures value { IfOk result (λ at. at.items ≡ positions_from 0 (is_in op.now) tets.now) }
-    ensures bound { IfOk result (λ at. All (λ i. i < length tets.now) at.items) }
-{
-    let mut at = Vec::new(alloc);
-    for i in 0..tets.len() {
-        push_if(&mut at, i, is_in(op, &tets[i]))?;
-    }
-    Ok(at)
-}
 
 /// Whether nothing at these positions is taken.
 fn are_free(taken: &[bool], at: &[usize]) -> bool
@@ -61,20 +37,22 @@ fn take(taken: &mut [bool], at: &[usize])
     }
 }
 
-/// Takes the cavity of an operation. Whether all of it was free.
+/// Takes the cavity of an operation, whose positions it puts down. Whether all of it was free.
 fn takes(
-    alloc: Global,
+    places: &Places,
     taken: &mut [bool],
+    cavity: &mut Vec<usize>,
     op: &Operation,
     tets: &[Tet],
 ) -> Result<bool, Memory>
-    requires { length taken.old ≡ length tets.now }
+    requires table { places.now.corners ≡ ascending_of corner_cmp (corners_from 0 tets.now) }
+    requires flags { length taken.old ≡ length tets.now }
     ensures free { IfOk result (λ free. free ≡ are_free taken.old (positions_from 0 (is_in op.now) tets.now)) }
     ensures taken { OnOk result (taken.new ≡ taken_at (positions_from 0 (is_in op.now) tets.now) taken.old) }
 {
-    let at = positions(alloc, op, tets)?;
-    let free = are_free(taken, at.as_slice());
-    take(taken, at.as_slice());
+    places.at(tets, op.at(), cavity)?;
+    let free = are_free(taken, cavity.as_slice());
+    take(taken, cavity.as_slice());
     Ok(free)
 }
 
@@ -91,23 +69,28 @@ fn push_won(won: &mut Vec<Operation>, op: &Operation, is_wanted: bool) -> Result
 /// The operations that win. They take their cavities one after the other, also those that don't win.
 fn winning(
     alloc: Global,
+    places: &Places,
     taken: &mut [bool],
     ops: &[Operation],
     tets: &[Tet],
 ) -> Result<Vec<Operation>, Memory>
     requires sorted { IsStrictlySortedBy rank ops.now }
+    requires table { places.now.corners ≡ ascending_of corner_cmp (corners_from 0 tets.now) }
     requires none { taken.old ≡ map (is_taken []) tets.now }
     ensures { IfOk result (λ won. won.items ≡ winners ops.now tets.now) }
 {
     let mut won = Vec::new(alloc);
+    let mut cavity = Vec::new(alloc);
     for op in ops {
-        let free = takes(alloc, taken, op, tets)?;
+        let free = takes(places, taken, &mut cavity, op, tets)?;
         push_won(&mut won, op, free)?;
     }
     Ok(won)
 }
 
 /// Those of the operations that are first in rank on each of the tetrahedra that are in their cavity.
+/// It goes through the operations once, in order of rank, with a flag for each tetrahedron: in
+/// n log n steps, where no cavity has more than a bounded number of tetrahedra.
 #[tactic(auto, using(crate::proofs::Taken::none_taken))]
 pub fn winners(
     alloc: Global,
@@ -116,7 +99,8 @@ pub fn winners(
 ) -> Result<Ascending<Operation>, Memory>
     ensures { IfOk result (λ won. won ≡ winners ops.now tets.now) }
 {
+    let places = Places::of(alloc, tets)?;
     let mut taken = vec![in alloc; false; tets.len()]?;
-    let won = winning(alloc, &mut taken, ops.as_slice(), tets)?;
+    let won = winning(alloc, &places, &mut taken, ops.as_slice(), tets)?;
     Ok(Ascending::from_vec(won))
 }

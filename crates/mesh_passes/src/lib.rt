@@ -3,5 +3,9 @@
 
 mod choosing;
 pub mod laws;
+mod places;
 
 pub use choosing::winners;
+
+#[cfg(test)]
+mod tests;
