@@ -2,10 +2,9 @@
 ghost use Rattle.std.specs.Prelude.{◌≡◌, ◌<◌, ◌++◌, ◌∷◌, [], IfOk, OnOk, length, map, if◌then◌else◌};
 ghost use Rattle.std.specs.List.{All};
 ghost use Rattle.std.specs.List.Sorted.{IsStrictlySortedBy};
-ghost use Rattle.ma_cells.specs.Ascending.{ascending_of};
 ghost use Rattle.cavity_rank.specs.Operations.{rank};
 ghost use Rattle.mesh_passes.specs.Choosing.{is_in, is_taken, winners, wins};
-ghost use Rattle.mesh_passes.specs.Tables.{corner_cmp, corners_from};
+ghost use Rattle.mesh_passes.specs.Tables.{tets_table};
 ghost use Rattle.mesh_passes.specs.Taking.{are_free, positions_from, taken_at};
 
 use crate::places::Places;
@@ -45,7 +44,7 @@ fn takes(
     op: &Operation,
     tets: &[Tet],
 ) -> Result<bool, Memory>
-    requires table { places.now.corners ≡ ascending_of corner_cmp (corners_from 0 tets.now) }
+    requires table { places.now.corners ≡ tets_table tets.now }
     requires flags { length taken.old ≡ length tets.now }
     ensures free { IfOk result (λ free. free ≡ are_free taken.old (positions_from 0 (is_in op.now) tets.now)) }
     ensures taken { OnOk result (taken.new ≡ taken_at (positions_from 0 (is_in op.now) tets.now) taken.old) }
@@ -75,7 +74,7 @@ fn winning(
     tets: &[Tet],
 ) -> Result<Vec<Operation>, Memory>
     requires sorted { IsStrictlySortedBy rank ops.now }
-    requires table { places.now.corners ≡ ascending_of corner_cmp (corners_from 0 tets.now) }
+    requires table { places.now.corners ≡ tets_table tets.now }
     requires none { taken.old ≡ map (is_taken []) tets.now }
     ensures { IfOk result (λ won. won.items ≡ winners ops.now tets.now) }
 {

@@ -8,4 +8,4 @@ use Rattle.mesh_passes.proofs.places.Places.at.Given as goal
 -- those of the corners so far whose tetrahedron has all the places
 abbrev pub invariant-loop-corner : goal.invariant-loop-corner
 invariant-loop-corner l =
-    l.into.items ≡ filter (λ i. has nat_cmp i (positions_from 0 (λ tet. holds_all tet.corners l.at) l.tets)) (map (λ c. c.tet) (take l.corner-index l.corners))
+    l.into.items ≡ filter (λ i. has nat_cmp i (positions_from 0 (λ tet. holds_all tet.corners l.at) l.tets)) (map (λ c. c.position) (take l.corner-index l.corners))
