@@ -15,7 +15,7 @@ use Rattle.ma_cells.specs.declared.batch.Batch.{Batch}
 use Rattle.ma_cells.specs.declared.cell.Cell.TheVariants.{Tri}
 use Rattle.size_marks.specs.Field.{Field, is_long, is_short}
 use Rattle.cavity_rank.specs.Operations.{Operation}
-use Rattle.cavity_rank.specs.declared.verdict.Kind.TheVariants.{Collapse}
+use Rattle.cavity_rank.specs.declared.verdict.Kind.TheVariants.{Collapse, Swap}
 use Rattle.mesh_passes.specs.Choosing.{winners, wins}
 use Rattle.mesh_passes.specs.Moves.{legal_operations}
 use Rattle.mesh_passes.specs.Passes.{passed}
@@ -78,3 +78,37 @@ after_a_pass = refl
 after_two : passed Collapse sizes two ≡ mesh_of (tet (along 0) z y (along 12) ∷ [])
 unfolding worst quality_of root longest2 vol6 len2 normal is_long is_short
 after_two = refl
+
+-- ---- three tetrahedra around an edge from one corner of a cube to the other
+abbrev a : Coordinates
+a = at_ 0 0 0
+
+abbrev b : Coordinates
+b = at_ 8 8 8
+
+abbrev r : Coordinates
+r = at_ 8 8 0
+
+abbrev s : Coordinates
+s = at_ 8 0 8
+
+abbrev t : Coordinates
+t = at_ 0 8 8
+
+abbrev around : Batch
+around = mesh_of (tet a t s b ∷ tet a t r b ∷ tet a s r b ∷ [])
+
+abbrev fine : Field
+fine = record { default = 16; boxes = [] }
+
+abbrev swap : (v : Coordinates) → Operation
+swap v = record { at = a ∷ b ∷ []; apex = v; worst = 390451572 }
+
+-- the edge may be swapped to each corner of the ring, with one quality, and no face may
+of_the_ring : legal_operations Swap fine around ≡ swap t ∷ swap s ∷ swap r ∷ []
+unfolding worst quality_of root longest2 vol6 len2 normal
+of_the_ring = refl
+
+after_a_swap : passed Swap fine around ≡ mesh_of (tet a t s r ∷ tet t s r b ∷ [])
+unfolding worst quality_of root longest2 vol6 len2 normal
+after_a_swap = refl

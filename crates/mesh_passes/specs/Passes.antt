@@ -11,6 +11,7 @@ use Rattle.size_marks.specs.Field.{Field}
 use Rattle.cavity_rank.specs.Operations.{Operation}
 use Rattle.cavity_rank.specs.declared.verdict.Kind.{Kind}
 use Rattle.cavity_collapse.specs.Collapsing.{collapsed, moved_mark}
+use Rattle.cavity_swap.specs.Swapping.{swapped}
 use Rattle.mesh_passes.specs.Choosing.{is_taken, winners}
 use Rattle.mesh_passes.specs.Moves.{legal_operations}
 
@@ -18,15 +19,15 @@ use Rattle.mesh_passes.specs.Moves.{legal_operations}
 abbrev pub chosen : Kind → Field → Batch → List Operation
 chosen kind field mesh = winners (legal_operations kind field mesh) mesh.tets
 
--- what fills a cavity, of a vertex by a collapse
+-- what fills a cavity: of a vertex by a collapse, of an edge or a face by a swap
 abbrev pub filling_at : List Coordinates → Coordinates → List Tetrahedron → List Tetrahedron
 filling_at (a ∷ []) v star = collapsed a v star
-filling_at at v star = []
+filling_at at v star = swapped v star
 
 abbrev pub filling : List Tetrahedron → Operation → List Tetrahedron
 filling tets op = filling_at op.at op.apex (star_of op.at tets)
 
--- a mark that has the vertex, once that is collapsed; a mark that doesn't, as others leave it
+-- a mark that has the vertex, once that is collapsed; any other mark, as others leave it. A swap leaves all marks
 abbrev pub changed_at : List Coordinates → Coordinates → CellMark → List CellMark → List CellMark
 changed_at (a ∷ []) v mark others = if has place_cmp a (corners_of mark.cell) then moved_mark a v mark else others
 changed_at at v mark others = others

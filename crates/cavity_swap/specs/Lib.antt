@@ -1,0 +1,4 @@
+pub mod Rings
+pub mod Swapping
+pub mod Judging
+pub mod Steps
