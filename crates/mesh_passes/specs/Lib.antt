@@ -1,3 +1,4 @@
+pub mod Around
 pub mod Choosing
 pub mod Changes
 pub mod Moves

@@ -45,10 +45,13 @@ quality_at field star marks (a ∷ b ∷ []) v = if make_a_ring (edges_across (a
 quality_at field star marks (a ∷ b ∷ c ∷ []) v = if are_a_pair star then legal_quality (judged_swap star marks (a ∷ b ∷ c ∷ []) v) else None
 quality_at field star marks _ v = None
 
--- the operation that takes a vertex, an edge or a face away and fills the cavity from v, if it is legal
+-- the operation that takes these places away and fills the cavity from v, if there is a quality
+abbrev pub operations_from : (at : List Coordinates) → (v : Coordinates) → Option ℕ → List Operation
+operations_from at v quality = map (λ worst. record { at = at; apex = v; worst = worst }) (option_to_list quality)
+
+-- the same, if it is legal in a mesh
 abbrev pub legal_from : Field → Batch → (at : List Coordinates) → (v : Coordinates) → List Operation
-legal_from field mesh at v =
-    map (λ worst. record { at = at; apex = v; worst = worst }) (option_to_list (quality_at field (star_of at mesh.tets) (marks_at at mesh.marks) at v))
+legal_from field mesh at v = operations_from at v (quality_at field (star_of at mesh.tets) (marks_at at mesh.marks) at v)
 
 -- those that take away something of a tetrahedron and fill the cavity from another of its corners
 abbrev pub legal_within : Kind → Field → Batch → Tetrahedron → List Operation

@@ -3,9 +3,11 @@
 
 mod choosing;
 pub mod laws;
+mod legal;
 mod places;
 
 pub use choosing::winners;
+pub use legal::legal_collapses;
 
 #[cfg(test)]
 mod tests;

@@ -84,10 +84,7 @@ fn ends_of(ends: [Place; 2], position: u32) -> [Corner; 2]
     ensures { result ≡ map (corner_at position) ends }
 {
     let [a, b] = ends;
-    [
-        Corner { place: a, position },
-        Corner { place: b, position },
-    ]
+    [Corner { place: a, position }, Corner { place: b, position }]
 }
 
 fn triple_of(corners: [Place; 3], position: u32) -> [Corner; 3]

@@ -20,7 +20,7 @@ loop-corner-preserved c =
     let tets = c.args.tets.now in
     let corner = c.corner-item.result in
     let within : corner.position < length tets =
-        position_within (λ (tet : Tetrahedron). tet.corners) tets c.index-at-0.result _ c.near-corners.result.now c.loop-corner.corner-index corner c.requires.table c.near-corners.ensures c.loop-corner-test.true c.corner-item.is in
+    position_within (λ (tet : Tetrahedron). tet.corners) tets c.index-at-0.result _ c.near-corners.result.now c.loop-corner.corner-index corner c.requires.table c.near-corners.ensures c.loop-corner-test.true c.corner-item.is in
     kept_step (λ i. has nat_cmp i (positions_from 0 (λ tet. holds_all tet.corners at) tets)) c.near-corners.result.now c.loop-corner.corner-index corner c.loop-corner.into.items _ c.holds.result c.loop-corner-test.true c.corner-item.is
     (c.holds.ensures ∙ sym (has-place (λ (tet : Tetrahedron). tet.corners) tets at corner.position c.index-tets-position.result within c.index-tets-position.is)) c.loop-corner.invariant c.in_ok-push_if.ensures
 
