@@ -50,7 +50,7 @@ abbrev pub has_face : List Coordinates → Tetrahedron → Bool
 has_face face tet = has (slice_cmp place_cmp) face (faces_of tet.corners)
 
 -- an odd number of proper tetrahedra have a face just if it is listed so often
-odd_listed : (face : List Coordinates) (ts : List Tetrahedron) → AllByRecursion (λ tet. are_corners tet.corners ≡ true) ts
+pub odd_listed : (face : List Coordinates) (ts : List Tetrahedron) → AllByRecursion (λ tet. are_corners tet.corners ≡ true) ts
     → odd_of (has_face face) ts ≡ is_odd (listings face (sorted_faces (corner_sets ts)))
 odd_listed face ts proper = sym (
     ap (λ l. is_odd (listings face l)) (ascending_faces (corner_sets ts) (all-map (λ tet. are_corners tet.corners ≡ true) (λ c. are_ascending place_cmp c ≡ true) (λ (tet : Tetrahedron). tet.corners) (λ tet h. corners_rise tet.corners h) ts proper))

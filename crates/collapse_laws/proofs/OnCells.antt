@@ -69,7 +69,7 @@ all_in (f ∷ faces) = (
 )
 
 -- a test that an item passes, some pass
-counted : {X : Type 0} (xs : List X) → AllByRecursion (λ x. (k : X → Bool) → k x ≡ true → count_by k xs ≢ 0) xs
+pub counted : {X : Type 0} (xs : List X) → AllByRecursion (λ x. (k : X → Bool) → k x ≡ true → count_by k xs ≢ 0) xs
 counted [] = tt
 counted (x ∷ xs) = (
   λ k e none. first (k x) (count_by k xs) (count_by k (x ∷ xs)) e (count-cons k x xs) none,
@@ -99,7 +99,7 @@ of_opposite P a corners is all =
     one true x p = tt
     one false x p = (p, tt)
 
-opposite_is_face : (a : Coordinates) (corners : List Coordinates) → is_flat corners ≡ false → has place_cmp a corners ≡ true → has (slice_cmp place_cmp) (besides (a ∷ []) corners) (faces_of corners) ≡ true
+pub opposite_is_face : (a : Coordinates) (corners : List Coordinates) → is_flat corners ≡ false → has place_cmp a corners ≡ true → has (slice_cmp place_cmp) (besides (a ∷ []) corners) (faces_of corners) ≡ true
 opposite_is_face a corners solid there =
     of_opposite (λ x. has (slice_cmp place_cmp) x.face (faces_of corners) ≡ true) a corners (split a corners solid there)
     (by_four (λ c. AllByRecursion (λ x. has (slice_cmp place_cmp) x.face (faces_of c) ≡ true) (facets_of c)) (λ w x y z _. all_in (faces_of (w ∷ x ∷ y ∷ z ∷ []))) corners solid)
@@ -137,7 +137,7 @@ fourth v (u ∷ w ∷ []) corners off there is = absurd is
 fourth v (u ∷ w ∷ x ∷ y ∷ l) corners off there is = absurd is
 
 -- so two tetrahedra on both sides of a face don't share the fourth corner
-no_two : (v : Coordinates) (face s t : List Coordinates) → has place_cmp v face ≡ false → LieOnBothSides s t → IsFaceOf face s → IsFaceOf face t → has place_cmp v s ≡ true → has place_cmp v t ≡ true → ⊥
+pub no_two : (v : Coordinates) (face s t : List Coordinates) → has place_cmp v face ≡ false → LieOnBothSides s t → IsFaceOf face s → IsFaceOf face t → has place_cmp v s ≡ true → has place_cmp v t ≡ true → ⊥
 no_two v (u ∷ w ∷ x ∷ []) s t off sides is_s is_t at_s at_t =
     never (vol6 u w x v) (sides u w x v v (fourth v (u ∷ w ∷ x ∷ []) s off at_s is_s) (fourth v (u ∷ w ∷ x ∷ []) t off at_t is_t))
   where

@@ -1,0 +1,4 @@
+//! What a legal swap keeps.
+#![tactic(auto)]
+
+pub mod laws;
