@@ -4,7 +4,7 @@ use Rattle.std.proofs.lemmas.Bool.{and_parts, and_from, false≢true}
 use Rattle.letters.specs.declared.fault.LetterFault.{LetterFault}
 use Rattle.letters.specs.declared.fault.LetterFault.TheVariants.{BadField}
 use Rattle.letters.specs.Grammar.{◌>>=◌, Grammar, chain, fits_in, renamed, spelling_in, stands_for, tested, variant}
-use Rattle.letters.specs.Laws.{AreBytes, IsLawful}
+use Rattle.letters.proofs.Lawful.{AreBytes, IsLawful}
 use Rattle.letters.proofs.Numbers.{bytes-front}
 
 -- the value of a step that did not fail

@@ -11,7 +11,7 @@ use Rattle.ma_cells.specs.declared.cell.Cell.TheVariants.{Point, Seg, Tri}
 use Rattle.letters.specs.Entries.{cell_at, corner_count, mark, operation, shared, tet}
 use Rattle.letters.specs.Fields.{between, part_before, place, place_before, signed}
 use Rattle.letters.specs.Grammar.{are_behind, counted, entries, number, tested, ◌then◌}
-use Rattle.letters.specs.Laws.{IsLawful}
+use Rattle.letters.proofs.Lawful.{IsLawful}
 use Rattle.letters.proofs.Combined.{chain_lawful, renamed_lawful, stands_for_lawful, tested_lawful}
 use Rattle.letters.proofs.FieldLaws.{between_lawful, place_lawful, signed_lawful}
 use Rattle.letters.proofs.Listed.{counted_lawful, entries_lawful}

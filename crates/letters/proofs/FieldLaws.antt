@@ -7,7 +7,7 @@ use Rattle.std.proofs.lemmas.Bool.{lt-ltb, ltb-false, ltb-true}
 use Rattle.std.proofs.lemmas.Int.{ints, of_z-to_z, to_z-of_z}
 use Rattle.letters.specs.Fields.{between, coordinate, is_coordinate, is_signed, place, signed}
 use Rattle.letters.specs.Grammar.{number, ◌then◌}
-use Rattle.letters.specs.Laws.{IsLawful}
+use Rattle.letters.proofs.Lawful.{IsLawful}
 use Rattle.letters.proofs.Combined.{chain_lawful, renamed_lawful, stands_for_lawful, tested_lawful}
 use Rattle.letters.proofs.Numbers.{number_lawful}
 

@@ -18,7 +18,7 @@ use Rattle.letters.specs.Bodies.{batch, body_of, delivered_in, ghosts_in, kind, 
 use Rattle.letters.specs.Entries.{mark, mark_before, operation, operation_before, shared, tet, tet_before}
 use Rattle.letters.specs.Fields.{between, place, place_before}
 use Rattle.letters.specs.Grammar.{Grammar, chain, number, ◌then◌}
-use Rattle.letters.specs.Laws.{AreBytes, IsLawful}
+use Rattle.letters.proofs.Lawful.{AreBytes, IsLawful}
 use Rattle.letters.specs.Letters.{Gives, IsLetter, NoSpellingBeginsAnother, letter, read, spelling}
 use Rattle.letters.specs.Sharing.{shared_before}
 use Rattle.letters.proofs.Combined.{bind_ok, chain_lawful, guard_ok, ok_is, renamed_lawful, variant_lawful}

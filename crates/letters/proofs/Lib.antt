@@ -1,3 +1,4 @@
+mod Lawful
 mod Numbers
 mod Combined
 mod Listed

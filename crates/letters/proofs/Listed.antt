@@ -4,7 +4,7 @@ use Rattle.std.specs.List.{flat_map, list_all}
 use Rattle.std.proofs.lemmas.Bool.{and_parts, and_from, eq-eqb, eqb-true}
 use Rattle.std.proofs.lemmas.List.Concat.{flat_map-cons}
 use Rattle.letters.specs.Grammar.{◌>>=◌, Grammar, are_behind, chain, comes_behind, counted, entries, entries_at, tested}
-use Rattle.letters.specs.Laws.{AreBytes, IsLawful}
+use Rattle.letters.proofs.Lawful.{AreBytes, IsLawful}
 use Rattle.letters.proofs.Combined.{bind_ok, chain_lawful, ok_is, renamed_lawful, tested_lawful}
 use Rattle.letters.proofs.Numbers.{bytes-front}
 

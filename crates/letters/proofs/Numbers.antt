@@ -10,7 +10,7 @@ use Rattle.byteorder.specs.Numbers.{big_from-cons, big_from-lt, big_from-take, b
 use Rattle.letters.specs.declared.fault.LetterFault.{LetterFault}
 use Rattle.letters.specs.declared.fault.LetterFault.TheVariants.{Short}
 use Rattle.letters.specs.Grammar.{number}
-use Rattle.letters.specs.Laws.{AreBytes, IsLawful}
+use Rattle.letters.proofs.Lawful.{AreBytes, IsLawful}
 
 pub bytes-drop : (n : ℕ) (bytes : List ℕ) → AreBytes bytes → AreBytes (drop n bytes)
 bytes-drop n bytes h i = rw get_or-drop (h (n + i))

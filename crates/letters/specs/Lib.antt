@@ -1,5 +1,4 @@
 pub mod Grammar
-pub mod Laws
 pub mod Sharing
 pub mod Fields
 pub mod Entries
