@@ -6,7 +6,7 @@ folder="$(mktemp -d)"
 trap 'rm -rf "$folder"' EXIT
 cd "$folder"
 
-# Runs the program on the mesh file $1 with the size $2 and $3 rounds, and tells its status, wall time, processor time and peak memory.
+# Runs the program on the mesh file $1 with the size $2 and $3 rounds, each with $4 passes of collapses and $5 of swaps, or none, and tells its status, wall time, processor time and peak memory.
 measure() { measure_with --uniform "$@"; }
 
 # The same with the size file $2.
@@ -15,8 +15,8 @@ measure_sizes() { measure_with --size "$@"; }
 measure_with() {
     python3 - "$program" "$@" <<'END'
 import os, sys, time
-program, option, mesh, size, rounds = sys.argv[1:6]
-words = f"--plain --mesh {mesh} {option} {size} --rounds {rounds} --collapse 0 --swap 0 --out stored".split()
+program, option, mesh, size, rounds, collapses, swaps = (sys.argv[1:] + ["0", "0"])[:7]
+words = f"--plain --mesh {mesh} {option} {size} --rounds {rounds} --collapse {collapses} --swap {swaps} --out stored".split()
 start = time.perf_counter()
 pid = os.spawnv(os.P_NOWAIT, program, [program, *words])
 _, status, usage = os.wait4(pid, 0)

@@ -60,10 +60,10 @@ def built_program() -> str:
     return str(ROOT / "crates/meshadapt/out/meshadapt")
 
 
-def adapted(program: str, mesh: str, *size, rounds: int = ROUNDS) -> str:
+def adapted(program: str, mesh: str, *size, rounds: int = ROUNDS, passes: int = 0, name: str = "_adapted") -> str:
     """Runs the program and gives the path of what it stored."""
-    out = mesh.removesuffix(".msh") + "_adapted"
-    ended = ran(program, "--plain", "--mesh", mesh, *size, "--rounds", rounds, "--collapse", 0, "--swap", 0, "--out", out)
+    out = mesh.removesuffix(".msh") + name
+    ended = ran(program, "--plain", "--mesh", mesh, *size, "--rounds", rounds, "--collapse", passes, "--swap", passes, "--out", out)
     assert ended.returncode == 0, f"the program ended with {ended.returncode}: {ended.stdout.strip()}"
     return out + ".msh"
 
@@ -196,6 +196,16 @@ def refinement_keeps_measures(model: str):
     stored = adapted(PROGRAM, whole, "--uniform", size_between(whole))
     before, after = read_mesh(whole), read_mesh(stored)
     assert len(after.tetrahedra) > 2 * len(before.tetrahedra)
+    assert volumes_by_region(before) == volumes_by_region(after)
+    agree(measures(before), measures(after), 1e-6)
+    assert sorted(before.names) == sorted(after.names)
+
+
+def coarsening_keeps_measures(model: str):
+    whole = whole_of(model)
+    stored = adapted(PROGRAM, whole, "--uniform", 4 * int(size_between(whole)), rounds=1, passes=3, name="_coarsened")
+    before, after = read_mesh(whole), read_mesh(stored)
+    assert len(after.points) < len(before.points)
     assert volumes_by_region(before) == volumes_by_region(after)
     agree(measures(before), measures(after), 1e-6)
     assert sorted(before.names) == sorted(after.names)
@@ -516,7 +526,7 @@ def wrapper_explains(folder: str):
     assert (ended.returncode, ended.stderr) == (0, "") and ended.stdout.endswith("done: plain\n"), ended
 
 
-ON_EACH_MODEL = (rounding_keeps_measures, refinement_keeps_measures, formats_read_back, parts_are_balanced, pictures_show_the_mesh, version_2_is_read_as_4)
+ON_EACH_MODEL = (rounding_keeps_measures, refinement_keeps_measures, coarsening_keeps_measures, formats_read_back, parts_are_balanced, pictures_show_the_mesh, version_2_is_read_as_4)
 ONCE = (
     flat_and_turned_are_named,
     nodes_together_are_named,

@@ -1,8 +1,4 @@
-pub mod AnyOrder
-pub mod Apart
-pub mod Around
-pub mod AtOnce
-pub mod Pushing
-mod Rows
-pub mod Tables
+pub mod Filled
+pub mod Made
+pub mod Numbered
 pub mod Taken

@@ -1,5 +1,5 @@
--- Positions in a list, and what is taken.
-use Rattle.std.proofs.Common.{◌≡◌, ℕ, suc, ◌+◌, ◌<◌, Bool, true, false, cond, not, ◌&&◌, ◌||◌, if◌then◌else◌, List, [], ◌∷◌, ◌++◌, map, filter, length, get_or, drop, refl, sym, ap, subst, ◌∙◌, append_assoc, arith, length-append, replicate, take, take-append-drop}
+-- What is taken, operation by operation.
+use Rattle.std.proofs.Common.{◌≡◌, ℕ, ◌+◌, ◌<◌, Bool, true, false, cond, not, ◌&&◌, ◌||◌, if◌then◌else◌, List, [], ◌∷◌, ◌++◌, map, filter, length, get_or, drop, refl, sym, ap, subst, ◌∙◌, append_assoc, length-append, replicate, take, take-append-drop}
 use Rattle.std.proofs.Math.Seq.{get_or-append_seam, set-append_seam}
 use Rattle.std.specs.declared.cmp.Ordering.TheVariants.{Less}
 use Rattle.std.specs.Cmp.{tied_itself}
@@ -11,19 +11,10 @@ use Rattle.std.proofs.lemmas.List.Elements.{filter-append}
 use Rattle.std.proofs.lemmas.List.Folds.{list_any-append}
 use Rattle.ma_cells.specs.Tetrahedron.{Tetrahedron}
 use Rattle.cavity_rank.specs.Operations.{Operation, rank}
-use Rattle.mesh_passes.specs.Choosing.{is_in, is_first_on, is_taken, wins}
-use Rattle.mesh_passes.specs.Taking.{are_free, positions_from, taken_at}
+use Rattle.pass_rules.specs.Choosing.{is_in, is_first_on, is_taken, wins}
+use Rattle.mesh_passes.specs.Taking.{are_free, taken_at}
+use Rattle.corner_tables.specs.Tables.{positions_from}
 use Rattle.cavity_rank.proofs.Ranked.{rank_total}
-
--- ---- positions
-pub positions_bound : {X : Type 0} (k : ℕ) (test : X → Bool) (xs : List X) → AllByRecursion (λ i. i < k + length xs) (positions_from k test xs)
-positions_bound k test [] = tt
-positions_bound k test (x ∷ xs) =
-    let rest : AllByRecursion (λ i. i < k + suc (length xs)) (positions_from (k + 1) test xs) = subst (λ n. AllByRecursion (λ i. i < n) (positions_from (k + 1) test xs)) (omega arith) (positions_bound (k + 1) test xs) in
-    elim (test x) as (λ b. AllByRecursion (λ i. i < k + suc (length xs)) (cond b (k ∷ positions_from (k + 1) test xs) (positions_from (k + 1) test xs))) [
-      | true ↦ (omega arith, rest)
-      | false ↦ rest
-    ]
 
 -- ---- what is taken at positions
 module _ {X : Type 0} (f g : X → Bool) where
@@ -113,9 +104,6 @@ taken_after done o tets =
 pub none_taken : (tets : List Tetrahedron) → map (is_taken []) tets ≡ replicate (length tets) false
 none_taken [] = refl
 none_taken (t ∷ tets) = ap (λ bs. false ∷ bs) (none_taken tets)
-
-pub positions_below : {X : Type 0} (test : X → Bool) (xs : List X) → AllByRecursion (λ i. i < length xs) (positions_from 0 test xs)
-positions_below test xs = subst (λ n. AllByRecursion (λ i. i < n) (positions_from 0 test xs)) (omega arith) (positions_bound 0 test xs)
 
 -- the operations up to one, that one, and those after it
 pub parted : (ops : List Operation) (i : ℕ) (o : Operation) → i < length ops → o ≡ get_or ops i o → ops ≡ take i ops ++ o ∷ drop (i + 1) ops

@@ -1,13 +1,13 @@
 //! Passes over a mesh: which of many operations are made, and the mesh that they leave.
 #![tactic(auto)]
 
+mod cavities;
 mod choosing;
-pub mod laws;
-mod legal;
-mod places;
+mod marks;
+mod passing;
 
 pub use choosing::winners;
-pub use legal::legal_collapses;
+pub use passing::{Passed, applied, pass};
 
 #[cfg(test)]
 mod tests;

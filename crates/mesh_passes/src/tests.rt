@@ -1,7 +1,8 @@
 // Values that were worked out by hand.
 use super::*;
-use cavity_rank::Operation;
-use ma_cells::{Ascending, Cell, Mark, Tet};
+use cavity_rank::{Kind, Operation};
+use corner_tables::CornerTable;
+use ma_cells::{Ascending, Batch, Cell, Mark, Tet};
 use ma_geom::{Memory, Place};
 use size_marks::SizeField;
 use std::alloc::Global;
@@ -69,20 +70,24 @@ fn one_that_does_not_win_is_in_the_way_of_others(rt: HostRuntime) {
     );
 }
 
-/// A face with the tag 0 0, or the origin where its corners are no cell.
-fn face(a: [u16; 3], b: [u16; 3], c: [u16; 3]) -> Mark {
-    match Cell::new(&[at(a), at(b), at(c)]) {
+const Y: [u16; 3] = [0, 12, 0];
+
+const Z: [u16; 3] = [0, 0, 12];
+
+/// A mark with the tag 0 0, or one on the origin where the corners are no cell.
+fn mark(corners: &[Place]) -> Mark {
+    match Cell::new(corners) {
         Some(cell) => Mark::new(cell, 0, 0),
         None => Mark::new(Cell::Point(at([0, 0, 0])), 0, 0),
     }
 }
 
-const Y: [u16; 3] = [0, 12, 0];
-
-const Z: [u16; 3] = [0, 0, 12];
+fn face(a: [u16; 3], b: [u16; 3], c: [u16; 3]) -> Mark {
+    mark(&[at(a), at(b), at(c)])
+}
 
 /// The faces that one of the three tetrahedra alone has.
-fn faces() -> [Mark; 8] {
+fn faces_of_three() -> [Mark; 8] {
     let (o, u, v, x) = ([0, 0, 0], [4, 0, 0], [8, 0, 0], [12, 0, 0]);
     [
         face(o, Z, Y),
@@ -96,22 +101,170 @@ fn faces() -> [Mark; 8] {
     ]
 }
 
-/// Whether an operation is the collapse of (a, 0, 0) to (v, 0, 0) to a quality of a quarter.
-fn is(op: &Operation, a: u16, v: u16) -> bool {
-    op.at() == [at([a, 0, 0])].as_slice() && op.apex() == at([v, 0, 0]) && op.worst() == 268435456
+/// The same once (4, 0, 0) is collapsed to the origin.
+fn faces_of_two() -> [Mark; 6] {
+    let (o, v, x) = ([0, 0, 0], [8, 0, 0], [12, 0, 0]);
+    [
+        face(o, Z, Y),
+        face(o, Z, v),
+        face(o, Y, v),
+        face(Z, v, x),
+        face(Y, v, x),
+        face(Z, Y, x),
+    ]
 }
 
-/// Whether the legal collapses of the three tetrahedra are those of the inner vertices, either way.
-fn are_legal(alloc: Global) -> Result<bool, Memory> {
-    let field = SizeField::uniform(alloc, 64);
-    let ops = legal_collapses(alloc, &three(), &faces(), &field)?;
-    match ops.as_slice() {
-        [p, q, r, s] => Ok(is(p, 4, 0) && is(q, 4, 8) && is(r, 8, 4) && is(s, 8, 12)),
-        _ => Ok(false),
+fn mesh(alloc: Global, tets: &[Tet], marks: &[Mark]) -> Result<Batch, Memory> {
+    let mut all_tets = Vec::new(alloc);
+    all_tets.extend_from_slice(tets)?;
+    let mut all_marks = Vec::new(alloc);
+    all_marks.extend_from_slice(marks)?;
+    Batch::gather(all_tets, all_marks)
+}
+
+fn are_same(one: &Batch, other: &Batch) -> bool {
+    one.tets.as_slice() == other.tets.as_slice() && one.marks.as_slice() == other.marks.as_slice()
+}
+
+/// Whether operations make the one mesh of the other.
+fn leave(alloc: Global, ops: &[Operation], old: &Batch, new: &Batch) -> Result<bool, Memory> {
+    let table = CornerTable::of(alloc, old.tets.as_slice())?;
+    let left = applied(alloc, old, &table, ops)?;
+    Ok(are_same(&left, new))
+}
+
+/// The three tetrahedra along a line, with their faces marked.
+fn along(alloc: Global) -> Result<Batch, Memory> {
+    mesh(alloc, &three(), &faces_of_three())
+}
+
+/// The two that are there once (4, 0, 0) is collapsed to the origin.
+fn collapsed(alloc: Global) -> Result<Batch, Memory> {
+    mesh(alloc, &[tet(0, 8), tet(8, 12)], &faces_of_two())
+}
+
+fn a_collapse_leaves_two(alloc: Global) -> Result<bool, Memory> {
+    let ops = collapses(alloc, &[[4, 0, 7]])?;
+    leave(alloc, ops.as_slice(), &along(alloc)?, &collapsed(alloc)?)
+}
+
+#[test]
+fn a_collapse_leaves_what_its_vertex_had_at_the_other(rt: HostRuntime) {
+    assert!(rt; a_collapse_leaves_two(rt.alloc()) == Ok(true));
+}
+
+fn segment(x: u16, y: u16) -> Mark {
+    mark(&[at([x, 0, 0]), at([y, 0, 0])])
+}
+
+/// Whether collapses change the segment from (4, 0, 0) to (8, 0, 0) to that from (x, 0, 0) to
+/// (y, 0, 0).
+fn change(alloc: Global, moves: &[[u16; 3]], x: u16, y: u16) -> Result<bool, Memory> {
+    let old = mesh(alloc, &[], &[segment(4, 8)])?;
+    let new = mesh(alloc, &[], &[segment(x, y)])?;
+    leave(alloc, collapses(alloc, moves)?.as_slice(), &old, &new)
+}
+
+#[test]
+fn the_first_that_collapses_a_corner_changes_a_mark(rt: HostRuntime) {
+    assert!(rt; change(rt.alloc(), &[[0, 4, 9], [8, 12, 8], [4, 0, 7]], 4, 12) == Ok(true));
+    assert!(rt; change(rt.alloc(), &[[4, 0, 8], [8, 12, 7]], 0, 8) == Ok(true));
+}
+
+const A: [u16; 3] = [0, 0, 0];
+
+const B: [u16; 3] = [8, 8, 8];
+
+const R: [u16; 3] = [8, 8, 0];
+
+const S: [u16; 3] = [8, 0, 8];
+
+const T: [u16; 3] = [0, 8, 8];
+
+fn spanned(a: [u16; 3], b: [u16; 3], c: [u16; 3], d: [u16; 3]) -> Tet {
+    match Tet::new([at(a), at(b), at(c), at(d)], 0, 1) {
+        Some(tet) => tet,
+        None => Tet::default(),
+    }
+}
+
+/// The faces without the edge from corner to corner of a cube.
+fn faces_around() -> [Mark; 6] {
+    [
+        face(A, T, S),
+        face(A, T, R),
+        face(A, S, R),
+        face(T, S, B),
+        face(T, R, B),
+        face(S, R, B),
+    ]
+}
+
+/// The three tetrahedra around that edge.
+fn around(alloc: Global) -> Result<Batch, Memory> {
+    let tets = [
+        spanned(A, T, S, B),
+        spanned(A, T, R, B),
+        spanned(A, S, R, B),
+    ];
+    mesh(alloc, &tets, &faces_around())
+}
+
+/// The two tetrahedra that a swap of the edge leaves.
+fn swapped(alloc: Global) -> Result<Batch, Memory> {
+    mesh(
+        alloc,
+        &[spanned(A, T, S, R), spanned(T, S, R, B)],
+        &faces_around(),
+    )
+}
+
+fn a_swap_leaves_two(alloc: Global) -> Result<bool, Memory> {
+    match Operation::new(&[at(A), at(B)], at(T), 390451572) {
+        Some(op) => leave(alloc, &[op], &around(alloc)?, &swapped(alloc)?),
+        None => Ok(false),
     }
 }
 
 #[test]
-fn an_inner_vertex_may_go_either_way_along_its_line(rt: HostRuntime) {
-    assert!(rt; are_legal(rt.alloc()) == Ok(true));
+fn a_swap_fills_the_place_of_its_edge_and_leaves_marks(rt: HostRuntime) {
+    assert!(rt; a_swap_leaves_two(rt.alloc()) == Ok(true));
+}
+
+/// Whether a pass makes the one mesh of the other, by a single operation.
+fn makes_one(
+    alloc: Global,
+    kind: Kind,
+    field: &SizeField,
+    old: &Batch,
+    new: &Batch,
+) -> Result<bool, Memory> {
+    let made = pass(alloc, kind, old, field)?;
+    Ok(made.count == 1 && are_same(&made.mesh, new))
+}
+
+fn a_pass_collapses_one(alloc: Global) -> Result<bool, Memory> {
+    let field = SizeField::uniform(alloc, 64);
+    makes_one(
+        alloc,
+        Kind::Collapse,
+        &field,
+        &along(alloc)?,
+        &collapsed(alloc)?,
+    )
+}
+
+fn a_pass_swaps_one(alloc: Global) -> Result<bool, Memory> {
+    let field = SizeField::uniform(alloc, 16);
+    makes_one(alloc, Kind::Swap, &field, &around(alloc)?, &swapped(alloc)?)
+}
+
+#[test]
+fn of_four_legal_collapses_of_one_cavity_a_pass_makes_the_first(rt: HostRuntime) {
+    assert!(rt; a_pass_collapses_one(rt.alloc()) == Ok(true));
+}
+
+#[test]
+fn of_three_legal_swaps_of_one_edge_a_pass_makes_the_first(rt: HostRuntime) {
+    assert!(rt; a_pass_swaps_one(rt.alloc()) == Ok(true));
 }

@@ -3,6 +3,7 @@ use Rattle.std.specs.Prelude.{ℕ, ◌^◌, ◌&&◌, ◌==◌, nat_le, if◌the
 use Rattle.std.specs.Option.{option_and_then}
 use Rattle.std.specs.Str.{bytes_eq}
 use Rattle.ma_text.specs.Numbers as numbers
+use Rattle.one_mesh.specs.Adaptation.{most_passes}
 
 -- the size of edges is the same everywhere, or it stands in the file of this name
 pub data Sizes : Type 0 where
@@ -75,14 +76,14 @@ size_file_of words = do
 unfoldable pub sizes_of : List (List ℕ) → Option (Sizes × List (List ℕ))
 sizes_of words = or_else (uniform_of words) (size_file_of words)
 
--- the words --plain --mesh M --uniform H --rounds N --collapse 0 --swap 0 --out X, in this order, or with --size S in place of --uniform H
+-- the words --plain --mesh M --uniform H --rounds N --collapse C --swap W --out X, in this order, or with --size S in place of --uniform H
 unfoldable pub job_of : List (List ℕ) → Option Job
 job_of words = do
   options ← after_flag (codes "--plain") words
   mesh ← value_of (codes "--mesh") options
   sizes ← sizes_of mesh.1
   rounds ← number_of (codes "--rounds") 0 30 sizes.1
-  collapse ← number_of (codes "--collapse") 0 0 rounds.1
-  swap ← number_of (codes "--swap") 0 0 collapse.1
+  collapse ← number_of (codes "--collapse") 0 most_passes rounds.1
+  swap ← number_of (codes "--swap") 0 most_passes collapse.1
   out ← value_of (codes "--out") swap.1
   if length out.1 == 0 then Some (record { mesh = mesh.0; sizes = sizes.0; rounds = rounds.0; collapses = collapse.0; swaps = swap.0; out = out.0 }) else None

@@ -1,6 +1,7 @@
 // The rounds of a run, each with its line.
-ghost use Rattle.std.specs.Prelude.{◌≡◌, IfOk, false};
+ghost use Rattle.std.specs.Prelude.{◌≡◌, ◌≤◌, IfOk, false};
 ghost use Rattle.msh_write.specs.Text.{nodes_of};
+ghost use Rattle.one_mesh.specs.Adaptation.{most_passes};
 ghost use Rattle.meshadapt.specs.Printed.{mesh_line, round_line};
 ghost use Rattle.meshadapt.specs.steps.Fetching.{inputs_of};
 ghost use Rattle.meshadapt.specs.steps.Running.{Begins, PutsLine, RunsRound, RunsRounds, asked};
@@ -61,8 +62,8 @@ fn run_round<S: Sink>(
     out: &mut S,
 ) -> Result<Ascending<Place>, Halt>
     requires spent { mesh.old.spent ≡ false }
-    requires collapses { job.now.collapses ≡ 0 }
-    requires swaps { job.now.swaps ≡ 0 }
+    requires collapses { job.now.collapses ≤ most_passes }
+    requires swaps { job.now.swaps ≤ most_passes }
     ensures runs { RunsRound result round (record { field = field.now; collapses = job.now.collapses; swaps = job.now.swaps }) mesh.old.mesh mesh.new (S.received out.old) (S.received out.new) }
     ensures nodes { IfOk result (λ nodes. nodes ≡ nodes_of mesh.new.mesh.tets) }
 {
@@ -93,8 +94,8 @@ fn run_rounds<S: Sink>(
     out: &mut S,
 ) -> Result<Ascending<Place>, Halt>
     requires spent { mesh.old.spent ≡ false }
-    requires collapses { job.now.collapses ≡ 0 }
-    requires swaps { job.now.swaps ≡ 0 }
+    requires collapses { job.now.collapses ≤ most_passes }
+    requires swaps { job.now.swaps ≤ most_passes }
     requires nodes { nodes ≡ nodes_of mesh.old.mesh.tets }
     ensures runs { RunsRounds result (record { field = field.now; collapses = job.now.collapses; swaps = job.now.swaps }) job.now.rounds mesh.old.mesh mesh.new (S.received out.old) (S.received out.new) }
     ensures nodes { IfOk result (λ nodes. nodes ≡ nodes_of mesh.new.mesh.tets) }
@@ -113,8 +114,8 @@ pub fn adapt_mesh<S: Sink>(
     out: &mut S,
 ) -> Result<Ascending<Place>, Halt>
     requires spent { fetched.old.mesh.spent ≡ false }
-    requires collapses { job.now.collapses ≡ 0 }
-    requires swaps { job.now.swaps ≡ 0 }
+    requires collapses { job.now.collapses ≤ most_passes }
+    requires swaps { job.now.swaps ≤ most_passes }
     ensures begins { Begins result (asked job.now) (inputs_of fetched.old) fetched.new.mesh (S.received out.old) (S.received out.new) }
     ensures names { fetched.new.names.items ≡ fetched.old.names.items }
     ensures nodes { IfOk result (λ nodes. nodes ≡ nodes_of fetched.new.mesh.mesh.tets) }

@@ -568,3 +568,72 @@ fn a_fetch_of_sizes_that_fails_is_a_read_fault(rt: HostRuntime) -> Result<(), Fa
     );
     Ok(())
 }
+
+/// Whether a run over a mesh of these nodes and tetrahedra makes one of those, and prints these lines.
+fn is_adapted(
+    rt: &impl Abort,
+    alloc: Global,
+    words: &str,
+    before: [&str; 2],
+    lines: &str,
+    after: [&str; 2],
+) -> Result<bool, Fail> {
+    let file = file_of(alloc, before[0], before[1])?;
+    let stored = file_of(alloc, after[0], after[1])?;
+    becomes(rt, alloc, words, file.as_str(), lines, stored.as_str())
+}
+
+/// Three tetrahedra along the x axis.
+const ALONG: [&str; 2] = [
+    "0 0 0;4 0 0;8 0 0;12 0 0;0 12 0;0 0 12",
+    "1 2 5 6;2 3 5 6;3 4 5 6",
+];
+
+#[test]
+fn of_two_collapses_that_meet_the_one_of_the_lesser_vertex_is_made(
+    rt: HostRuntime,
+) -> Result<(), Fail> {
+    let words = "--plain --mesh m.msh --uniform 64 --rounds 1 --collapse 1 --swap 0 --out x";
+    let lines =
+        "mesh: tets 3 nodes 6 marks 0 loose 0\nround 1: tets 2 nodes 5 worst 134217728\ndone: plain\n";
+    let after = ["0 0 0;0 0 12;0 12 0;8 0 0;12 0 0", "1 2 4 3;2 3 5 4"];
+    assert!(rt; is_adapted(&rt, rt.alloc(), words, ALONG, lines, after)?);
+    Ok(())
+}
+
+#[test]
+fn a_second_pass_collapses_what_the_first_one_left(rt: HostRuntime) -> Result<(), Fail> {
+    let words = "--plain --mesh m.msh --uniform 64 --rounds 1 --collapse 2 --swap 0 --out x";
+    let lines =
+        "mesh: tets 3 nodes 6 marks 0 loose 0\nround 1: tets 1 nodes 4 worst 402653184\ndone: plain\n";
+    let after = ["0 0 0;0 0 12;0 12 0;12 0 0", "1 2 4 3"];
+    assert!(rt; is_adapted(&rt, rt.alloc(), words, ALONG, lines, after)?);
+    Ok(())
+}
+
+#[test]
+fn three_tetrahedra_around_an_edge_are_swapped_for_two(rt: HostRuntime) -> Result<(), Fail> {
+    let words = "--plain --mesh m.msh --uniform 16 --rounds 1 --collapse 0 --swap 1 --out x";
+    let before = ["0 0 0;8 8 8;8 8 0;8 0 8;0 8 8", "1 2 3 4;1 2 4 5;1 2 5 3"];
+    let lines =
+        "mesh: tets 3 nodes 5 marks 0 loose 0\nround 1: tets 2 nodes 5 worst 390451572\ndone: plain\n";
+    let after = ["0 0 0;0 8 8;8 0 8;8 8 0;8 8 8", "1 2 3 4;2 3 4 5"];
+    assert!(rt; is_adapted(&rt, rt.alloc(), words, before, lines, after)?);
+    Ok(())
+}
+
+/// Two tetrahedra along two marked lines, and what is left when their common node goes.
+const LINES: &str =
+    "$MeshFormat\n2.2 0 8\n$EndMeshFormat\n$Nodes\n5\n1 0 0 0\n2 4 0 0\n3 8 0 0\n4 0 8 0\n5 0 0 8\n$EndNodes\n$Elements\n4\n1 1 2 0 5 1 2\n2 1 2 0 5 2 3\n3 4 2 0 1 1 2 4 5\n4 4 2 0 1 2 3 4 5\n$EndElements\n";
+
+const ONE_LINE: &str =
+    "$MeshFormat\n2.2 0 8\n$EndMeshFormat\n$Nodes\n4\n1 0 0 0\n2 0 0 8\n3 0 8 0\n4 8 0 0\n$EndNodes\n$Elements\n2\n1 1 2 0 5 1 4\n2 4 2 0 1 1 2 4 3\n$EndElements\n";
+
+#[test]
+fn a_vertex_goes_along_its_marked_line(rt: HostRuntime) -> Result<(), Fail> {
+    let words = "--plain --mesh m.msh --uniform 64 --rounds 1 --collapse 1 --swap 0 --out x";
+    let lines =
+        "mesh: tets 2 nodes 5 marks 2 loose 0\nround 1: tets 1 nodes 4 worst 390451572\ndone: plain\n";
+    assert!(rt; becomes(&rt, rt.alloc(), words, LINES, lines, ONE_LINE)?);
+    Ok(())
+}

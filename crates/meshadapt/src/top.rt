@@ -1,5 +1,6 @@
 // A run, from its words to its status.
-ghost use Rattle.std.specs.Prelude.{◌≡◌, map, string_bytes};
+ghost use Rattle.std.specs.Prelude.{◌≡◌, ◌≤◌, map, string_bytes};
+ghost use Rattle.one_mesh.specs.Adaptation.{most_passes};
 ghost use Rattle.meshadapt.specs.Geometry.{GeometryIsKept};
 ghost use Rattle.meshadapt.specs.Outcome.{AcceptedIsDone, Leaves, RefusalIsAnswered, TooManyIsAnswered, UsageIsAnswered, seen};
 ghost use Rattle.meshadapt.specs.Words.{job_of};
@@ -24,8 +25,8 @@ fn run_job<D: Depot, S: Sink>(
     out: &mut S,
 ) -> Result<(), Halt>
     requires sizes { HasSize job.now.sizes }
-    requires collapses { job.now.collapses ≡ 0 }
-    requires swaps { job.now.swaps ≡ 0 }
+    requires collapses { job.now.collapses ≤ most_passes }
+    requires swaps { job.now.swaps ≤ most_passes }
     ensures { Runs result (asked job.now) (seen (D.held depot.old) (S.received out.old)) (seen (D.held depot.new) (S.received out.new)) }
 {
     let mut fetched = fetch_inputs(alloc, depot, job)?;
@@ -56,7 +57,8 @@ fn run<D: Depot, S: Sink>(alloc: Global, words: &[String], depot: &mut D, out: &
 
 /// Adapts the mesh that the words name, round by round, and stores the result in the depot.
 ///
-/// In each round the tetrahedra are bisected at their long edges. The lines of the run are put into
+/// In each round the tetrahedra are bisected at their long edges, then short edges are collapsed in
+/// so many passes, and then poor cavities are swapped in so many. The lines of the run are put into
 /// `out`, one for each round. A line that can't be put ends the run with a write fault, unless the
 /// run ends with that line for another reason.
 pub fn meshadapt<D: Depot, S: Sink>(

@@ -1,10 +1,14 @@
 // The command line.
 ghost use Rattle.std.specs.Prelude.{◌≡◌, ◌≤◌, ◌^◌, IfSome, map, string_bytes};
 ghost use Rattle.std.specs.Option.{option_map};
+ghost use Rattle.one_mesh.specs.Adaptation.{most_passes};
 ghost use Rattle.meshadapt.specs.Words.{after_flag, in_range, job_of, number_in, number_of, size_file_of, sizes_of, uniform_of, value_of};
 ghost use Rattle.meshadapt.specs.steps.Running.{HasSize, asked, sizes_asked};
 
 use ma_text::magnitude;
+
+/// How many passes of a kind a round may have.
+const MOST_PASSES: u32 = 16;
 
 /// The sizes that edges are to have.
 #[derive(Clone, Copy, Debug)]
@@ -24,9 +28,9 @@ pub struct Job<'a> {
     pub sizes: Sizes<'a>,
     /// How many rounds are run, at most 30.
     pub rounds: u32,
-    /// How many collapse passes a round has.
+    /// How many collapse passes a round has, at most 16.
     pub collapses: u32,
-    /// How many swap passes it has.
+    /// How many swap passes it has, at most 16.
     pub swaps: u32,
     /// The front of the names of what is stored.
     pub out: &'a str,
@@ -129,15 +133,14 @@ fn sizes_of<'a>(words: &'a [String]) -> Option<(Sizes<'a>, &'a [String])>
 pub fn job_of<'a>(words: &'a [String]) -> Option<Job<'a>>
     ensures value { option_map (λ job. asked job) result ≡ job_of (map string_bytes words.now) }
     ensures sizes { IfSome result (λ job. HasSize job.sizes) }
-    // There are no passes yet.
-    ensures passes { IfSome result (λ job. (job.collapses ≡ 0) × (job.swaps ≡ 0)) }
+    ensures passes { IfSome result (λ job. (job.collapses ≤ most_passes) × (job.swaps ≤ most_passes)) }
 {
     let options = after_flag("--plain", words)?;
     let (mesh, options) = value_of("--mesh", options)?;
     let (sizes, options) = sizes_of(options)?;
     let (rounds, options) = number_of("--rounds", 0, 30, options)?;
-    let (collapses, options) = number_of("--collapse", 0, 0, options)?;
-    let (swaps, options) = number_of("--swap", 0, 0, options)?;
+    let (collapses, options) = number_of("--collapse", 0, MOST_PASSES, options)?;
+    let (swaps, options) = number_of("--swap", 0, MOST_PASSES, options)?;
     let (out, options) = value_of("--out", options)?;
     if options.is_empty() {
         Some(Job {

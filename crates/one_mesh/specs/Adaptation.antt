@@ -1,7 +1,10 @@
 -- Plans, rounds of adaptation by a plan, and how many tetrahedra a mesh may have.
-use Rattle.std.specs.Prelude.{◌≡◌, ℕ, zero, suc, ◌+◌, ◌-◌, ◌≤◌, ◌<◌, length}
+use Rattle.std.specs.Prelude.{◌≡◌, ℕ, zero, suc, ◌+◌, ◌-◌, ◌≤◌, ◌<◌, length, nat_lt, if◌then◌else◌}
 use Rattle.ma_cells.specs.declared.batch.Batch.{Batch}
 use Rattle.size_marks.specs.Field.{Field}
+use Rattle.cavity_rank.specs.declared.verdict.Kind.{Kind}
+use Rattle.cavity_rank.specs.declared.verdict.Kind.TheVariants.{Collapse, Swap}
+use Rattle.pass_rules.specs.Passes.{passed}
 use Rattle.refinement.specs.Refinement.{refine}
 
 -- the size of edges, and how many collapse passes and swap passes a round has
@@ -14,14 +17,22 @@ pub record Plan : Type 0 where
 abbrev pub most_adapted_tets : ℕ
 most_adapted_tets = 1000000
 
--- a round refines the mesh in stage 0, and has a stage for each pass
+-- how many passes of a kind a round may have
+abbrev pub most_passes : ℕ
+most_passes = 16
+
+-- a round refines the mesh in stage 0, and has a stage for each pass: for those that collapse edges, and then for those that swap
 abbrev pub last_stage : Plan → ℕ
 last_stage plan = plan.collapses + plan.swaps
 
--- the mesh after this stage of a round that starts with a mesh. There are no passes yet, and no plan asks for one
+-- what the pass behind so many others does
+abbrev pub kind_of_pass : Plan → ℕ → Kind
+kind_of_pass plan before = if nat_lt before plan.collapses then Collapse else Swap
+
+-- the mesh after this stage of a round that starts with a mesh
 abbrev pub staged : Plan → ℕ → Batch → Batch
 staged plan zero mesh = refine plan.field mesh
-staged plan (suc stage) mesh = staged plan stage mesh
+staged plan (suc before) mesh = passed (kind_of_pass plan before) plan.field (staged plan before mesh)
 
 -- the mesh after so many rounds
 abbrev pub adapted : Plan → ℕ → Batch → Batch

@@ -1,19 +1,19 @@
 //! Laws of rounds, each the contract of a function that does nothing.
-ghost use Rattle.one_mesh.specs.Laws.{RoundsAdapt, RoundsAreNotFlat, RoundsHalveTheGrid, RoundsKeepCover};
+ghost use Rattle.one_mesh.specs.Laws.{RoundsAdapt, RoundsAreNotFlat, RoundsHalveTheGrid, StagesAdapt};
 
 /// After any number of rounds no tetrahedron is flat.
 pub fn rounds_are_not_flat()
     ensures { RoundsAreNotFlat }
 {}
 
-/// Any number of rounds keeps the cover of each region.
-pub fn rounds_keep_cover()
-    ensures { RoundsKeepCover }
-{}
-
 /// Each round takes a mesh to the next finer grid.
 pub fn rounds_halve_the_grid()
     ensures { RoundsHalveTheGrid }
+{}
+
+/// Each stage of each round keeps a sound mesh sound, its cover and its classification.
+pub fn stages_adapt()
+    ensures { StagesAdapt }
 {}
 
 /// Any number of rounds keeps a sound mesh sound, its cover and its classification.

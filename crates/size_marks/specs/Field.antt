@@ -14,6 +14,11 @@ pub record Field : Type 0 where
   pub default : ℕ
   pub boxes : List BoxedSize
 
+-- a place and the size there
+pub record PlaceAndSize : Type 0 where
+  pub place : Coordinates
+  pub size : ℕ
+
 abbrev pub greatest_size : ℕ
 greatest_size = 2 ^ 30
 

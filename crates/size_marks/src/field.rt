@@ -102,6 +102,26 @@ impl Model for SizeField {
     ghost invariant = { λ f. (is_size f.default ≡ true) × IsIndexOf f.boxes.items f.index };
 }
 
+/// A place with a size: what a field has there is looked up once for all edges that end at it.
+#[derive(Clone, Copy, Debug, PartialEq, Eq)]
+pub struct SizedPlace {
+    place: Place,
+    size: u32,
+}
+
+impl Model for SizedPlace {
+    ghost use Rattle.std.specs.Prelude.{◌≡◌, true};
+    ghost use Rattle.size_marks.specs.Field.{PlaceAndSize, is_size};
+
+    ghost Value = { PlaceAndSize };
+
+    ghost view = { λ s. record { place = s.place; size = s.size } };
+
+    ghost invariant = { λ s. is_size s.size ≡ true };
+
+    ghost inverse = { λ s. record { place = s.place; size = s.size } };
+}
+
 /// The size of the last of these boxes that holds the place, else the default.
 fn size_among(default: u32, boxes: &[SizeBox], p: Place) -> u32
     requires { is_size default ≡ true }
@@ -204,6 +224,16 @@ impl SizeField {
         }
     }
 
+    /// The place with its size.
+    pub fn sized(&self, p: Place) -> SizedPlace
+        ensures { result ≡ record { place = p; size = size_at self.now p } }
+    {
+        SizedPlace {
+            place: p,
+            size: self.size_at(p),
+        }
+    }
+
     /// The lesser size of the two ends of an edge.
     fn size_along(&self, a: Place, b: Place) -> u32
         ensures value { result ≡ size_along self.now a b }
@@ -218,6 +248,16 @@ impl SizeField {
         ensures { result ≡ is_long self.now a b }
     {
         is_longer(squared_length(a, b), self.size_along(a, b))
+    }
+
+    /// The same of places whose sizes in this field are known, so that none is looked up.
+    #[tactic(auto, unfolding(crate::specs::Field::is_long))]
+    pub fn is_long_between(&self, a: SizedPlace, b: SizedPlace) -> bool
+        requires a_sized { a.size ≡ size_at self.now a.place }
+        requires b_sized { b.size ≡ size_at self.now b.place }
+        ensures { result ≡ is_long self.now a.place b.place }
+    {
+        is_longer(squared_length(a.place, b.place), lesser(a.size, b.size))
     }
 
     /// Whether the edge is shorter than half of its size, the lesser one of its two ends.

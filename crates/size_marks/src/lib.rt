@@ -5,7 +5,7 @@ mod field;
 mod looking;
 mod slabs;
 
-pub use field::{SizeBox, SizeField};
+pub use field::{SizeBox, SizeField, SizedPlace};
 
 #[cfg(test)]
 mod tests;

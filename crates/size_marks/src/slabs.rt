@@ -62,14 +62,11 @@ impl Row {
         self.words[k / 64] |= 1 << (k % 64);
     }
 
-    /// The bits of boxes `64 * block` and the 63 behind it, from the lowest on.
-    pub fn word(&self, block: usize) -> u64
-        ensures { result ≡ slice_index self.now block }
+    /// The words, each with the bits of 64 boxes, from the lowest on.
+    pub fn words(&self) -> &[u64]
+        ensures { result.now ≡ self.now }
     {
-        match self.words.get(block) {
-            Some(word) => *word,
-            None => 0,
-        }
+        self.words.as_slice()
     }
 }
 

@@ -29,6 +29,20 @@ fn an_edge_of_three_halves_of_its_size_is_not_long(rt: HostRuntime) {
 }
 
 #[test]
+fn an_edge_is_long_by_the_lesser_of_the_sizes_that_its_ends_were_given(
+    rt: HostRuntime,
+) -> Result<(), Memory> {
+    let field = three_boxes(rt.alloc())?;
+    let u = field.sized(place(5, 0, 0));
+    assert!(rt; field.is_long_between(u, field.sized(place(10, 0, 0))));
+    assert!(rt; field.is_long_between(field.sized(place(0, 5, 0)), u));
+    assert!(rt; !field.is_long_between(u, field.sized(place(5, 4, 0))));
+    assert!(rt; field.is_long_between(u, field.sized(place(1, 0, 0))));
+    assert!(rt; !field.is_long_between(u, field.sized(place(9, 0, 0))));
+    Ok(())
+}
+
+#[test]
 fn the_longest_edge_is_told_from_the_greatest_size(rt: HostRuntime) {
     let g = 1 << 30;
     let greatest = SizeField::uniform(rt.alloc(), 1 << 30);

@@ -1,5 +1,5 @@
 -- Bits that choose items.
-use Rattle.std.proofs.Common.{◌≡◌, ℕ, ◌+◌, ◌*◌, ◌/◌, ◌%◌, ◌==◌, Bool, true, false, List, [], ◌∷◌, filter, refl, ap, arith}
+use Rattle.std.proofs.Common.{◌≡◌, ℕ, ◌+◌, ◌*◌, ◌/◌, ◌%◌, ◌==◌, Bool, true, false, List, [], ◌∷◌, map, filter, refl, ap, arith}
 use Rattle.std.specs.Prelude.{cond}
 use Rattle.split_templates.specs.Edges.{chosen, mask_of}
 
@@ -23,6 +23,10 @@ chosen-mask_of test (x ∷ xs) =
       | true ↦ rw (odd_bit n, odd_half n) (ap (λ ys. x ∷ ys) (chosen-mask_of test xs))
       | false ↦ rw (even_bit n, even_half n) (chosen-mask_of test xs)
     ]
+
+pub mask_of-map : {X : Type 0} (test : X → Bool) (xs : List X) → mask_of (λ b. b) (map test xs) ≡ mask_of test xs
+mask_of-map test [] = refl
+mask_of-map test (x ∷ xs) = ap (λ n. cond (test x) 1 0 + 2 * n) (mask_of-map test xs)
 
 pub chosen-odd : {X : Type 0} (mask : ℕ) (x : X) (xs : List X) → mask % 2 ≡ 1 → chosen mask (x ∷ xs) ≡ x ∷ chosen (mask / 2) xs
 chosen-odd mask x xs odd = rw odd refl

@@ -53,22 +53,37 @@ pub(crate) fn in_order(edges: &[[Place; 2]], mask: u8) -> ArrayVec<Edge, 6>
     }
 }
 
-fn is_long_edge(ends: [Place; 2], field: &SizeField) -> bool
-    ensures { result ≡ is_long_edge field.now ends }
+/// The bits of those that are true.
+fn bits_of(long: &[bool]) -> EdgeMask
+    requires { length long.now ≤ 6 }
+    ensures value { result ≡ mask_of (λ is_long. is_long) long.now }
+    ensures bound { result < 2 ^ length long.now }
 {
-    field.is_long(ends[0], ends[1])
+    match long {
+        [] => 0,
+        [first, rest @ ..] => u8::from(*first) + 2 * bits_of(rest),
+    }
 }
 
-/// The long ones of these edges.
-fn long_ones(edges: &[[Place; 2]], field: &SizeField) -> EdgeMask
-    requires { length edges.now ≤ 6 }
-    ensures value { result ≡ mask_of (is_long_edge field.now) edges.now }
-    ensures bound { result < 2 ^ length edges.now }
+/// Which pairs of these places are long edges, in the order 01, 02, 03, 12, 13, 23.
+fn are_long(corners: [Place; 4], field: &SizeField) -> [bool; 6]
+    ensures { result ≡ map (is_long_edge field.now) (edges_of corners) }
 {
-    match edges {
-        [] => 0,
-        [first, rest @ ..] => u8::from(is_long_edge(*first, field)) + 2 * long_ones(rest, field),
-    }
+    let [a, b, c, d] = corners;
+    let (a, b, c, d) = (
+        field.sized(a),
+        field.sized(b),
+        field.sized(c),
+        field.sized(d),
+    );
+    [
+        field.is_long_between(a, b),
+        field.is_long_between(a, c),
+        field.is_long_between(a, d),
+        field.is_long_between(b, c),
+        field.is_long_between(b, d),
+        field.is_long_between(c, d),
+    ]
 }
 
 /// The long edges of a tetrahedron. Takes no memory.
@@ -77,7 +92,7 @@ pub fn marked(t: &Tet, field: &SizeField) -> EdgeMask
     ensures bound { result < 64 }
     ensures long { chosen result (edges_of t.now.corners) ≡ filter (is_long_edge field.now) (edges_of t.now.corners) }
 {
-    long_ones(&t.edges(), field)
+    bits_of(&are_long(t.corners(), field))
 }
 
 /// The pairs of these places, each in their order.
@@ -88,12 +103,25 @@ pub(crate) fn tri_edges(corners: [Place; 3]) -> [[Place; 2]; 3]
     [[a, b], [a, c], [b, c]]
 }
 
+/// Which pairs of these places are long edges, in the order 01, 02, 12.
+fn are_long_tri(corners: [Place; 3], field: &SizeField) -> [bool; 3]
+    ensures { result ≡ map (is_long_edge field.now) (edges_of corners) }
+{
+    let [a, b, c] = corners;
+    let (a, b, c) = (field.sized(a), field.sized(b), field.sized(c));
+    [
+        field.is_long_between(a, b),
+        field.is_long_between(a, c),
+        field.is_long_between(b, c),
+    ]
+}
+
 /// The long edges of a triangle: bits 0, 1 and 2 stand for the edges 01, 02 and 12. Takes no memory.
 pub fn marked_tri(t: [Place; 3], field: &SizeField) -> EdgeMask
     ensures bound { result < 8 }
     ensures long { chosen result (edges_of t) ≡ filter (is_long_edge field.now) (edges_of t) }
 {
-    long_ones(&tri_edges(t), field)
+    bits_of(&are_long_tri(t, field))
 }
 
 /// Bit 0 if the segment is long. Takes no memory.
@@ -101,5 +129,5 @@ pub fn marked_seg(s: [Place; 2], field: &SizeField) -> EdgeMask
     ensures bound { result < 2 }
     ensures long { chosen result (edges_of s) ≡ filter (is_long_edge field.now) (edges_of s) }
 {
-    long_ones(&[s], field)
+    bits_of(&[field.is_long(s[0], s[1])])
 }

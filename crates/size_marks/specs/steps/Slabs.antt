@@ -1,6 +1,6 @@
 -- Steps of the code: no public contract names them, and nothing here is a promise. Axes cut into
 -- slabs, and rows of bits that tell which boxes meet a slab.
-use Rattle.std.specs.Prelude.{Option, None, Some, [], ℕ, ◌≡◌, ◌+◌, ◌/◌, ◌%◌, ◌<◌, ◌≤◌, true, false, ℤ, ◌<ℤ◌, ◌≤ℤ◌, List, length, slice_index_or}
+use Rattle.std.specs.Prelude.{Option, None, Some, [], ℕ, ◌≡◌, ◌+◌, ◌/◌, ◌%◌, ◌<◌, ◌≤◌, true, false, ℤ, ◌<ℤ◌, ◌≤ℤ◌, List, length, bit_and, slice_index_or}
 use Rattle.std.specs.Int.{bit_at}
 use Rattle.ma_geom.specs.Coordinates.{Coordinates}
 use Rattle.size_marks.specs.declared.looking.BoxIndex.{BoxIndex}
@@ -40,6 +40,10 @@ pub record IsIndexAlong (boxes : List BoxedSize) (axis : Axis) (cuts : List ℤ)
 -- the row is that of a slab with this coordinate
 abbrev pub HasSlab : List ℤ → List (List ℕ) → ℤ → List ℕ → Type 0
 HasSlab cuts rows c row = (s : ℕ) × (s < length rows) × IsInSlab cuts s c × (row ≡ slice_index_or rows s row)
+
+-- the bits of a block of 64 boxes that are set in all three rows
+abbrev pub common_word : List ℕ → List ℕ → List ℕ → ℕ → ℕ
+common_word x y z block = bit_and (bit_and (slice_index_or x block 0) (slice_index_or y block 0)) (slice_index_or z block 0)
 
 -- bit j of the mask is set where box j holds the place
 abbrev pub MasksHolders : List BoxedSize → ℕ → Coordinates → Type 0

@@ -1,6 +1,7 @@
 use Rattle.std.proofs.Common.{ap, ◌∙◌}
-use Rattle.mesh_passes.specs.Choosing.{is_in}
-use Rattle.mesh_passes.specs.Taking.{are_free, positions_from}
+use Rattle.pass_rules.specs.Choosing.{is_in}
+use Rattle.mesh_passes.specs.Taking.{are_free}
+use Rattle.corner_tables.specs.Tables.{positions_from}
 use Rattle.mesh_passes.proofs.Taken.{taken_step, won_step}
 use Rattle.mesh_passes.proofs.choosing.winning.Goals as goal
 

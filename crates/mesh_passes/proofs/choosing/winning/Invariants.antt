@@ -1,5 +1,5 @@
 use Rattle.std.proofs.Common.{◌≡◌, filter, map, take}
-use Rattle.mesh_passes.specs.Choosing.{is_taken, wins}
+use Rattle.pass_rules.specs.Choosing.{is_taken, wins}
 use Rattle.mesh_passes.proofs.choosing.winning.Given as goal
 
 abbrev pub invariant-loop-op : goal.invariant-loop-op

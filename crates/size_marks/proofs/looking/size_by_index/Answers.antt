@@ -1,7 +1,7 @@
-use Rattle.std.proofs.Common.{ℕ, ◌≡◌, ◌+◌, ◌-◌, ◌*◌, ◌/◌, ◌<◌, List, length, get_or, take, drop, length-take, length-drop, sym, ap, subst, ◌∙◌, arith}
+use Rattle.std.proofs.Common.{ℕ, ℤ, ◌≡◌, ◌+◌, ◌-◌, ◌*◌, ◌/◌, ◌<◌, List, length, get_or, take, drop, length-take, length-drop, sym, ap, subst, ◌∙◌, arith}
 use Rattle.std.proofs.lemmas.List.{get_or-drop, get_or-take}
 use Rattle.size_marks.specs.Field.{BoxedSize, last_or, sizes_at}
-use Rattle.size_marks.specs.steps.Slabs.{MasksHolders}
+use Rattle.size_marks.specs.steps.Slabs.{HasSlab, MasksHolders}
 use Rattle.size_marks.proofs.Blocks.{holders_masked, size_behind, size_before}
 use Rattle.size_marks.proofs.looking.size_by_index.Goals as goal
 
@@ -18,27 +18,35 @@ pub size_in_block-requires : goal.size_in_block-requires
 size_in_block-requires c =
     let before = c.loop-x.before.now in
     let boxes = c.args.boxes.now in
-    let n = (length before - 1) / 64 in
-    let index = c.args.index.now in
-    let block = c.split_at.result.1.now in
+    let last = (length before - 1) / 64 in
+    let n = c.last_met-number.result in
+    let back = c.split_at.result.1.now in
     let Same : List BoxedSize → Type 0 = λ bs. (j : ℕ) (d : BoxedSize) → j < length bs → get_or bs j d ≡ get_or boxes (64 * n + j) d in
     let same = subst Same (sym c.split_at.ensures.back) (block_at (64 * n) before boxes c.loop-x.invariant.first) in
     let long = ap length c.split_at.ensures.back ∙ length-drop (64 * n) before in
-    let Masks : ℕ → Type 0 = λ mask. MasksHolders block mask c.args.p in
+    let index = c.args.index.now in
+    let p = c.args.p in
+    let In : List ℤ → List (List ℕ) → ℤ → List ℕ → Type 0 = HasSlab in
+    let in_x = subst (In index.x.cuts.items index.x.rows.items p.x) (sym c.words-x.ensures) c.row_at.ensures in
+    let in_y = subst (In index.y.cuts.items index.y.rows.items p.y) (sym c.words-y.ensures) c.row_at-2.ensures in
+    let in_z = subst (In index.z.cuts.items index.z.rows.items p.z) (sym c.words-z.ensures) c.row_at-3.ensures in
+    let up_to = c.last_met-number.ensures in
+    let Masks : ℕ → Type 0 = λ mask. MasksHolders back mask p in
     subst Masks (sym c.mask_of.ensures)
-    (holders_masked boxes block index c.args.p c.row_at-x.result.now c.row_at-y.result.now c.row_at-z.result.now n c.requires.indexed c.row_at-x.ensures c.row_at-y.ensures c.row_at-z.ensures same (omega (arith, long, c.loop-x.invariant.within)) (omega (arith, long)))
+    (holders_masked boxes back index p c.words-x.result.now c.words-y.result.now c.words-z.result.now n last c.requires.indexed in_x in_y in_z same
+    (omega (arith, long, c.loop-x.invariant.within)) (omega (arith, long)) up_to.behind)
 
 pub returns-in-Some-clause-value : goal.returns-in-Some-clause-value
 returns-in-Some-clause-value c =
     let before = c.loop-x.before.now in
     let Decides : List BoxedSize → Type 0 = λ bs. (d : ℕ) → last_or d (sizes_at bs c.args.p) ≡ c.in-Some.size in
     let decided = subst Decides c.split_at.ensures.back c.in-Some.ensures.0 in
-    sym (size_behind before (64 * ((length before - 1) / 64)) c.args.p c.args.default c.in-Some.size decided) ∙ c.loop-x.invariant.size
+    sym (size_behind before (64 * c.last_met-number.result) c.args.p c.args.default c.in-Some.size decided) ∙ c.loop-x.invariant.size
 
 pub loop-x-preserved : goal.loop-x-preserved
 loop-x-preserved c =
     let before = c.loop-x.before.now in
-    let n = 64 * ((length before - 1) / 64) in
+    let n = 64 * c.last_met-number.result in
     let front = c.split_at.ensures.front in
     let First : List BoxedSize → Type 0 = λ bs. Fronts bs c.args.boxes.now in
     record {

@@ -17,7 +17,7 @@ falls mask n top =
 pub returns-in-Some : goal.returns-in-Some
 returns-in-Some c =
     let left = c.loop-left.left in
-    decides_last c.args.block.now left c.args.p _ c.in-Some.size c.loop-left.invariant (top_of left _ (omega arith) (omega arith) refl) c.in-Some.ensures
+    decides_last c.args.boxes.now left c.args.p _ c.in-Some.size c.loop-left.invariant (top_of left _ (omega arith) (omega arith) refl) c.in-Some.ensures
 
 pub loop-left-smaller : goal.loop-left-smaller
 loop-left-smaller c =
@@ -30,8 +30,8 @@ pub loop-left-preserved : goal.loop-left-preserved
 loop-left-preserved c =
     let left = c.loop-left.left in
     let top = top_of left _ (omega arith) (omega arith) refl in
-    let Masks : ℕ → Type 0 = λ k. MasksHolders c.args.block.now (bit_and left k) c.args.p in
-    subst Masks (sym (below_is _ top.within)) (masks_less c.args.block.now left c.args.p _ c.loop-left.invariant top c.in_default.ensures)
+    let Masks : ℕ → Type 0 = λ k. MasksHolders c.args.boxes.now (bit_and left k) c.args.p in
+    subst Masks (sym (below_is _ top.within)) (masks_less c.args.boxes.now left c.args.p _ c.loop-left.invariant top c.in_default.ensures)
 
 pub returns : goal.returns
-returns c = decides_none c.args.block.now c.loop-left.left c.args.p c.loop-left.invariant c.loop-left-test.false
+returns c = decides_none c.args.boxes.now c.loop-left.left c.args.p c.loop-left.invariant c.loop-left-test.false

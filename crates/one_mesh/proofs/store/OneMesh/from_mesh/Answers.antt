@@ -1,7 +1,10 @@
-use Rattle.std.proofs.Common.{◌≡◌, true, false, ◌∙◌, ap}
+use Rattle.std.proofs.Common.{◌≡◌, true, false, ◌∙◌, ap, subst, sym}
+use Rattle.std.specs.List.Sorted.{IsStrictlySortedBy}
+use Rattle.ma_cells.specs.Cells.{mark_cmp}
+use Rattle.ma_cells.proofs.Ascents.{ascending_from_strict}
 use Rattle.ma_cells.specs.Ascending.{ascending_of}
 use Rattle.ma_cells.specs.Tetrahedron.{tet_cmp, are_corners, are_tetrahedra}
-use Rattle.ma_cells.proofs.CellOrders.{tet_cmp-IsAntisymmetric}
+use Rattle.ma_cells.proofs.CellOrders.{mark_cmp_total, tet_cmp-IsAntisymmetric}
 use Rattle.ma_cells.proofs.Passing.{all_pass, test_all}
 use Rattle.one_mesh.proofs.store.OneMesh.from_mesh.Goals as goal
 use Rattle.ma_cells.proofs.SetItems.{all-ascending_of}
@@ -16,5 +19,8 @@ pub invariant_of-result : goal.invariant_of-result
 invariant_of-result c =
     let tets = c.gather.ensures.is tet_cmp-IsAntisymmetric in
     let all = all_pass (λ tet. are_corners tet.corners) c.in_ok-tets.tets.items c.in_ok-tets.ensures.not_flat in
-    ap are_tetrahedra tets
-    ∙ test_all (λ tet. are_corners tet.corners) (ascending_of tet_cmp c.in_ok-tets.tets.items) (all-ascending_of tet_cmp (λ tet. are_corners tet.corners ≡ true) c.in_ok-tets.tets.items all)
+    let rise : IsStrictlySortedBy mark_cmp c.from_vec.result = subst (λ marks. IsStrictlySortedBy mark_cmp marks) (sym (c.from_vec.ensures ∙ c.in_ok-marks.ensures.items)) c.marks.ensures.rise in (
+      ap are_tetrahedra tets
+          ∙ test_all (λ tet. are_corners tet.corners) (ascending_of tet_cmp c.in_ok-tets.tets.items) (all-ascending_of tet_cmp (λ tet. are_corners tet.corners ≡ true) c.in_ok-tets.tets.items all),
+      ascending_from_strict mark_cmp_total c.from_vec.result rise,
+    )

@@ -1,0 +1,11 @@
+pub mod Each
+pub mod Removals
+pub mod Standing
+pub mod Marking
+pub mod Turns
+pub mod AllAtOnce
+pub mod MarksAtOnce
+pub mod Chosen
+pub mod Fitting
+pub mod Adapts
+pub mod Examples

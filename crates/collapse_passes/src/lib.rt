@@ -1,0 +1,4 @@
+//! What a pass of collapses keeps.
+#![tactic(auto)]
+
+pub mod laws;

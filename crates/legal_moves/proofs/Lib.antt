@@ -1,0 +1,5 @@
+pub mod Around
+pub mod BySpot
+pub mod ByVertex
+pub mod Closed
+pub mod Pushing

@@ -1,5 +1,0 @@
-use Rattle.mesh_passes.proofs.AnyOrder.{any_order_is_at_once}
-use Rattle.mesh_passes.proofs.laws.any_order_is_at_once.Goals as goal
-
-pub returns : goal.returns
-returns c = any_order_is_at_once

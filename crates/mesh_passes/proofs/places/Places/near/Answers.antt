@@ -1,9 +1,0 @@
-use Rattle.std.proofs.Common.{sym, subst}
-use Rattle.std.specs.List.Sorted.{IsStrictlySortedBy}
-use Rattle.std.proofs.lemmas.List.Kept.{IsStrictlySortedBy-filter}
-use Rattle.mesh_passes.specs.Tables.{corner_cmp, not_below}
-use Rattle.mesh_passes.proofs.places.Places.near.Goals as goal
-
-pub up_to_place-requires : goal.up_to_place-requires
-up_to_place-requires c =
-    subst (λ cs. IsStrictlySortedBy corner_cmp cs) (sym c.from_place.ensures) (IsStrictlySortedBy-filter corner_cmp (not_below c.args.place) c.as_slice.result.now c.as_slice.ensures.rises)

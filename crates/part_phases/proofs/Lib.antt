@@ -1,0 +1,6 @@
+pub mod Balances
+pub mod Examples
+pub mod Gathered
+pub mod Inboxes
+pub mod Kept
+pub mod Owed

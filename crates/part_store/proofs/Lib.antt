@@ -1,0 +1,5 @@
+pub mod Members
+pub mod Agreeing
+mod Owners
+mod FoundMarks
+mod Gathered

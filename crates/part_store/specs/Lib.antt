@@ -1,0 +1,4 @@
+pub mod Labelled
+pub mod Stores
+pub mod Agreement
+pub mod steps

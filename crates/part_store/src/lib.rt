@@ -1,0 +1,14 @@
+//! What a part keeps of a mesh that is spread over parts: its tetrahedra, those of others around them, marks, and the places that it shares.
+#![tactic(auto)]
+
+mod around;
+mod batches;
+mod laws;
+mod marks;
+mod store;
+
+pub use laws::views_agree;
+pub use store::Store;
+
+#[cfg(test)]
+mod tests;

@@ -1,0 +1,5 @@
+pub mod AnyOrder
+pub mod Apart
+pub mod AtOnce
+pub mod Kept
+mod Rows

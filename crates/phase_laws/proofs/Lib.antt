@@ -1,0 +1,7 @@
+pub mod Draws
+pub mod Ends
+pub mod Events
+pub mod Examples
+pub mod Starts
+pub mod Staying
+pub mod Together

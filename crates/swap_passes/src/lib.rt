@@ -1,0 +1,4 @@
+//! What a pass of swaps keeps.
+#![tactic(auto)]
+
+pub mod laws;
