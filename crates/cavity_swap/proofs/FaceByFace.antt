@@ -90,7 +90,7 @@ module _ (cavity : List Tetrahedron) (first : Tetrahedron) (v : Coordinates) (fr
   swapped_is = subst (λ tets. ascending_of tet_cmp (flat_map (λ tet. flat_map (cone v first.phys first.elem) (outer_faces tets tet)) tets) ≡ swapped v tets) (sym front) refl
 
 -- ---- the corners besides a face
-beside_all : (face : List Coordinates) (v : Coordinates) (corners : List Coordinates) → list_all (is_beside face v) corners ≡ list_all (λ d. same_sign (side_of face v) (side_of face d)) (besides face corners)
+pub beside_all : (face : List Coordinates) (v : Coordinates) (corners : List Coordinates) → list_all (is_beside face v) corners ≡ list_all (λ d. same_sign (side_of face v) (side_of face d)) (besides face corners)
 beside_all face v [] = refl
 beside_all face v (d ∷ corners) =
     elim (has place_cmp d face) as (λ b. ((b || same_sign (side_of face v) (side_of face d)) && list_all (is_beside face v) corners) ≡ list_all (λ d. same_sign (side_of face v) (side_of face d)) (cond (not b) (d ∷ besides face corners) (besides face corners))) [

@@ -1,16 +1,18 @@
 -- The way of the code around a ring and over the faces of a cavity. No public contract names these.
-use Rattle.std.specs.Prelude.{ℕ, Bool, not, ◌==◌, ◌||◌, List, [], ◌∷◌, length, Option, Some, None, if◌then◌else◌}
+use Rattle.std.specs.Prelude.{ℕ, Bool, not, ◌==◌, ◌||◌, ◌&&◌, nat_lt, List, [], ◌∷◌, length, Option, Some, None, if◌then◌else◌}
 use Rattle.std.specs.List.{list_all}
 use Rattle.std.specs.Ordering.{is_lt}
 use Rattle.ma_geom.specs.Coordinates.{Coordinates, place_cmp}
+use Rattle.ma_geom.specs.Quality.{quality}
 use Rattle.ma_geom.specs.Signs.{same_sign, side_of}
 use Rattle.ma_cells.specs.Ascending.{has}
 use Rattle.ma_cells.specs.Faces.{faces_of}
 use Rattle.ma_cells.specs.Tetrahedron.{Tetrahedron, tetrahedron_of}
 use Rattle.cavity_collapse.specs.Collapsing.{is_same}
 use Rattle.cavity_collapse.specs.Curves.{end_across}
-use Rattle.cavity_collapse.specs.Steps.{worst_with}
+use Rattle.cavity_collapse.specs.Steps.{each_passes, worst_with}
 use Rattle.cavity_swap.specs.Swapping.{had_by}
+use Rattle.cavity_swap.specs.declared.outer.OuterFace.{OuterFace}
 
 abbrev pub is_pair : List Coordinates → Bool
 is_pair places = length places == 2
@@ -83,3 +85,14 @@ is_seen_from v corners face = has place_cmp v face || list_all (is_beside face v
 
 abbrev pub are_seen : List Tetrahedron → Coordinates → Bool
 are_seen cavity v = list_all (λ tet. list_all (λ face. not (had_by cavity face == 1) || is_seen_from v tet.corners face) (faces_of tet.corners)) cavity
+
+-- a face of the tetrahedron with these corners, if one tetrahedron of the cavity alone has it
+abbrev pub outer_at : List Tetrahedron → (corners : List Coordinates) → List Coordinates → List OuterFace
+outer_at cavity corners face = if had_by cavity face == 1 then record { face = face; corners = corners } ∷ [] else []
+
+-- whether each tetrahedron from v over one of these faces is of more than this quality
+abbrev pub are_above : ℕ → Tetrahedron → Coordinates → List OuterFace → Bool
+are_above old first v outer = list_all (λ one. each_passes (λ tet. nat_lt old (quality tet.corners)) (tetrahedron_of (v ∷ one.face) first.phys first.elem)) outer
+
+abbrev pub passes_from : ℕ → Tetrahedron → Coordinates → List OuterFace → Bool
+passes_from old first v outer = list_all (λ one. is_seen_from v one.corners one.face) outer && are_above old first v outer

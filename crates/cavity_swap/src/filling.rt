@@ -37,7 +37,7 @@ fn alike(corners: [Place; 4], first: &Tet) -> Option<Tet>
     Tet::new(corners, first.phys(), first.elem())
 }
 
-fn cone(v: Place, face: [Place; 3], first: &Tet) -> Option<Tet>
+pub(crate) fn cone(v: Place, face: [Place; 3], first: &Tet) -> Option<Tet>
     ensures { result ≡ tetrahedron_of (v ∷ face) first.now.phys first.now.elem }
 {
     let [x, y, z] = face;

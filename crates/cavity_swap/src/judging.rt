@@ -8,7 +8,6 @@ ghost use Rattle.ma_cells.specs.Ascending.{ascending_of, has};
 ghost use Rattle.ma_cells.specs.Tetrahedron.{tet_cmp};
 ghost use Rattle.ma_cells.specs.Worst.{worst};
 ghost use Rattle.cavity_rank.specs.Verdicts.{first_failing, verdict_of};
-ghost use Rattle.cavity_collapse.specs.Judging.{legal_quality};
 ghost use Rattle.cavity_swap.specs.Judging.{has_one_region, is_bad, is_bare, judged_pair, judged_swap, outer_faces_are_seen, shared_by};
 ghost use Rattle.cavity_swap.specs.Rings.{IsRingOf};
 ghost use Rattle.cavity_swap.specs.Swapping.{swapped};
@@ -36,7 +35,7 @@ fn have_region_of(first: &Tet, rest: &[Tet]) -> bool
     rest.iter().all(|tet| same_region(tet, first))
 }
 
-fn has_one_region(cavity: &[Tet]) -> bool
+pub(crate) fn has_one_region(cavity: &[Tet]) -> bool
     ensures { result ≡ has_one_region cavity.now }
 {
     match cavity {
@@ -83,31 +82,6 @@ pub fn judge_with(cavity: &[Tet], marks: &[Mark], at: &[Place], v: Place, old: u
     match failing(cavity, marks, at, v) {
         Some(number) => Verdict::Illegal(number),
         None => by_quality(cavity, v, old),
-    }
-}
-
-/// Whether all tests pass but the last one, those that cost less first.
-fn may_go(cavity: &[Tet], marks: &[Mark], at: &[Place], v: Place, old: u32) -> bool
-    ensures { result ≡ list_all (λ test. test) (has_one_region cavity.now ∷ is_bare marks.now at.now cavity.now ∷ outer_faces_are_seen cavity.now v ∷ is_bad old ∷ []) }
-{
-    old < 1 << 28
-        && has_one_region(cavity)
-        && is_bare(marks, at, cavity)
-        && outer_faces_are_seen(cavity, v)
-}
-
-/// The least quality of the new tetrahedra, where a swap as in `judge_with` is legal. It takes no
-/// memory, and the tests that cost less come first.
-pub fn legal_with(cavity: &[Tet], marks: &[Mark], at: &[Place], v: Place, old: u32) -> Option<u32>
-    requires { old ≡ worst cavity.now }
-    ensures { result ≡ legal_quality (judged_swap cavity.now marks.now at.now v) }
-{
-    if !may_go(cavity, marks, at, v, old) {
-        return None;
-    }
-    match by_quality(cavity, v, old) {
-        Verdict::Legal { worst } => Some(worst),
-        Verdict::Illegal(_) => None,
     }
 }
 

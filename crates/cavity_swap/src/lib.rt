@@ -3,6 +3,7 @@
 
 mod filling;
 mod judging;
+mod outer;
 mod places;
 mod rings;
 mod seen;
@@ -10,7 +11,8 @@ mod sets;
 mod walks;
 
 pub use filling::result;
-pub use judging::{judge_pair, judge_ring, judge_with, legal_with};
+pub use judging::{judge_pair, judge_ring, judge_with};
+pub use outer::{OuterFace, find_outer, may_be_taken, quality_from};
 pub use rings::{Ring, ring_around, ring_of};
 
 #[cfg(test)]

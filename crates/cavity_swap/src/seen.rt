@@ -43,7 +43,7 @@ fn is_marked(marks: &[Mark], corners: &[Place]) -> bool
 fn is_free(cavity: &[Tet], marks: &[Mark], face: [Place; 3]) -> bool
     ensures { result ≡ not (had_by cavity.now face == 2 && is_marked marks.now face) }
 {
-    !(had_by(cavity, face) == 2 && is_marked(marks, &face))
+    !is_marked(marks, &face) || had_by(cavity, face) != 2
 }
 
 fn faces_are_free(cavity: &[Tet], marks: &[Mark], faces: &[[Place; 3]]) -> bool
@@ -83,7 +83,7 @@ fn are_beside(face: [Place; 3], v: Place, corners: [Place; 4]) -> bool
     corners.iter().all(|d| is_beside(face, v, *d))
 }
 
-fn is_seen_from(v: Place, corners: [Place; 4], face: [Place; 3]) -> bool
+pub(crate) fn is_seen_from(v: Place, corners: [Place; 4], face: [Place; 3]) -> bool
     ensures { result ≡ is_seen_from v corners face }
 {
     has(&face, v) || are_beside(face, v, corners)

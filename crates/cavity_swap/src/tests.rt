@@ -2,7 +2,8 @@
 use super::*;
 use cavity_rank::Verdict;
 use ma_cells::{Cell, Mark, Tet};
-use ma_geom::Place;
+use ma_geom::{Memory, Place};
+use std::alloc::Global;
 use std::test::Fail;
 
 /// The place with these coordinates.
@@ -101,8 +102,25 @@ fn the_known_quality_of_a_cavity_gives_the_same_verdict(rt: HostRuntime) {
         judge_with(&cavity, &[], &edge, t, old),
         Verdict::Legal { worst: 390451572 }
     );
-    assert!(rt; legal_with(&cavity, &[], &edge, t, old) == Some(390451572));
-    assert!(rt; legal_with(&cavity, &[face(O, T, B)], &edge, t, old).is_none());
+    assert!(rt; may_be_taken(&cavity, &[], &edge, old));
+    assert!(rt; !may_be_taken(&cavity, &[face(O, T, B)], &edge, old));
+}
+
+/// The quality of what fills the place of three tetrahedra from T and from the origin, by the faces that one of them alone has.
+fn qualities_from(alloc: Global) -> Result<[Option<u32>; 2], Memory> {
+    let cavity = [tet([O, S, T, B]), tet([O, R, T, B]), tet([O, R, S, B])];
+    let mut outer = Vec::new(alloc);
+    find_outer(&mut outer, &cavity)?;
+    let faces = outer.as_slice();
+    Ok([
+        quality_from(&cavity, faces, at(T), 220254733),
+        quality_from(&cavity, faces, at(O), 220254733),
+    ])
+}
+
+#[test]
+fn from_a_corner_of_the_ring_the_place_is_filled_better(rt: HostRuntime) {
+    assert!(rt; qualities_from(rt.alloc()) == Ok([Some(390451572), None]));
 }
 
 #[test]

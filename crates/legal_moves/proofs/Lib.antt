@@ -3,3 +3,4 @@ pub mod BySpot
 pub mod ByVertex
 pub mod Closed
 pub mod Pushing
+mod Taken

@@ -15,6 +15,7 @@ use Rattle.size_marks.specs.Field.{Field}
 use Rattle.cavity_rank.specs.Operations.{Operation}
 use Rattle.cavity_collapse.specs.Judging.{legal_quality}
 use Rattle.cavity_swap.specs.Judging.{is_bad, judged_swap}
+use Rattle.cavity_swap.specs.Outer.{quality_from}
 use Rattle.cavity_swap.specs.Rings.{edges_across}
 use Rattle.pass_rules.specs.Moves.{are_a_pair, legal_from, make_a_ring, operations_from}
 
@@ -51,6 +52,10 @@ is_swappable _ star = false
 -- the swaps of an edge or a face to v, by the tetrahedra and the marks around it
 abbrev pub swaps_at : List Tetrahedron → List CellMark → (at : List Coordinates) → Coordinates → List Operation
 swaps_at star marks at v = operations_from at v (legal_quality (judged_swap star marks at v))
+
+-- the same where the tests pass that don't hang on v
+abbrev pub swaps_from : List Tetrahedron → (at : List Coordinates) → Coordinates → List Operation
+swaps_from star at v = operations_from at v (quality_from star v)
 
 abbrev pub swaps_around : Batch → (at : List Coordinates) → List Operation
 swaps_around mesh at = if is_swappable at (star_of at mesh.tets) then flat_map (swaps_at (star_of at mesh.tets) (marks_at at mesh.marks) at) (others_of at (star_of at mesh.tets)) else []

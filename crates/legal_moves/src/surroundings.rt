@@ -10,17 +10,19 @@ ghost use Rattle.legal_moves.specs.Around.{others_of};
 ghost use Rattle.pass_rules.specs.Moves.{operations_from};
 
 use cavity_rank::Operation;
+use cavity_swap::OuterFace;
 use ma_cells::{Mark, Tet};
 use ma_geom::{Memory, Place};
 use std::alloc::Global;
 
 /// What is around one spot after the other, in memory that is used again: the tetrahedra and the
-/// marks there, and the other corners of the tetrahedra.
+/// marks there, the other corners of the tetrahedra, and the faces that one of these alone has.
 #[derive(Drop)]
 pub(crate) struct Surroundings {
     pub(crate) star: Vec<Tet>,
     pub(crate) marks: Vec<Mark>,
     pub(crate) others: Vec<Place>,
+    pub(crate) outer: Vec<OuterFace>,
 }
 
 impl Surroundings {
@@ -29,6 +31,7 @@ impl Surroundings {
             star: Vec::new(alloc),
             marks: Vec::new(alloc),
             others: Vec::new(alloc),
+            outer: Vec::new(alloc),
         }
     }
 }

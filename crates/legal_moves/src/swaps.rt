@@ -6,19 +6,21 @@ ghost use Rattle.std.specs.Ordering.{eq_by_cmp};
 ghost use Rattle.ma_geom.specs.Coordinates.{place_cmp};
 ghost use Rattle.ma_cells.specs.Ascending.{are_ascending};
 ghost use Rattle.ma_cells.specs.Tetrahedron.{tet_cmp};
+ghost use Rattle.ma_cells.specs.Worst.{worst};
 ghost use Rattle.size_marks.specs.Field.{Field};
 ghost use Rattle.cavity_rank.specs.Operations.{is_spot};
 ghost use Rattle.cavity_rank.specs.declared.verdict.Kind.TheVariants.{Swap};
+ghost use Rattle.cavity_swap.specs.Outer.{outer_of};
 ghost use Rattle.cavity_swap.specs.Rings.{edges_across};
 ghost use Rattle.corner_tables.specs.Tables.{marks_table, tets_table};
-ghost use Rattle.legal_moves.specs.Around.{is_swappable, swaps_around, swaps_at};
+ghost use Rattle.legal_moves.specs.Around.{is_swappable, swaps_around, swaps_at, swaps_from};
 ghost use Rattle.pass_rules.specs.Moves.{are_a_pair, legal_operations, make_a_ring};
 
 use crate::spots::{bad_among, edges_of, faces_of};
 use crate::surroundings::{Surroundings, find_others, push_operation};
 use cavity_collapse::worst;
 use cavity_rank::Operation;
-use cavity_swap::{legal_with, ring_around};
+use cavity_swap::{OuterFace, find_outer, may_be_taken, quality_from, ring_around};
 use corner_tables::CornerTable;
 use ma_cells::{Ascending, Batch, Mark, Tet};
 use ma_geom::{Memory, Place};
@@ -63,9 +65,31 @@ fn is_swappable(at: &[Place], star: &[Tet]) -> bool
     }
 }
 
+/// Appends the legal swaps of an edge or a face to these places, where the tests pass that don't
+/// hang on the place.
+fn push_from(
+    ops: &mut Vec<Operation>,
+    star: &[Tet],
+    outer: &[OuterFace],
+    at: &[Place],
+    apexes: &[Place],
+    old: u32,
+) -> Result<(), Memory>
+    requires spot { is_spot at.now ≡ true }
+    requires outer { outer.now ≡ outer_of star.now }
+    requires old { old ≡ worst star.now }
+    ensures { OnOk result (ops.new.items ≡ ops.old.items ++ flat_map (swaps_from star.now at.now) apexes.now) }
+{
+    for v in apexes {
+        push_operation(ops, at, *v, quality_from(star, outer, *v, old))?;
+    }
+    Ok(())
+}
+
 /// Appends the legal swaps of an edge or a face to these places.
 fn push_legal(
     ops: &mut Vec<Operation>,
+    outer: &mut Vec<OuterFace>,
     star: &[Tet],
     marks: &[Mark],
     at: &[Place],
@@ -75,10 +99,11 @@ fn push_legal(
     ensures { OnOk result (ops.new.items ≡ ops.old.items ++ flat_map (swaps_at star.now marks.now at.now) apexes.now) }
 {
     let old = worst(star);
-    for v in apexes {
-        push_operation(ops, at, *v, legal_with(star, marks, at, *v, old))?;
+    if !may_be_taken(star, marks, at, old) {
+        return Ok(());
     }
-    Ok(())
+    find_outer(outer, star)?;
+    push_from(ops, star, outer.as_slice(), at, apexes, old)
 }
 
 /// Appends the legal swaps of an edge or a face.
@@ -103,6 +128,7 @@ fn push_around(
     find_others(&mut around.others, around.star.as_slice(), at)?;
     push_legal(
         ops,
+        &mut around.outer,
         around.star.as_slice(),
         around.marks.as_slice(),
         at,

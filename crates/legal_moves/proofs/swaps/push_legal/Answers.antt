@@ -1,0 +1,10 @@
+use Rattle.std.proofs.Common.{◌≡◌, ◌++◌, ◌∙◌, false, ap, sym}
+use Rattle.std.proofs.lemmas.List.{append-nil}
+use Rattle.cavity_swap.specs.Outer.{may_be_taken}
+use Rattle.legal_moves.proofs.Taken.{to_none}
+use Rattle.legal_moves.proofs.swaps.push_legal.Goals as goal
+
+pub returns-then-not-may_be_taken : goal.returns-then-not-may_be_taken
+returns-then-not-may_be_taken c =
+    let none : may_be_taken c.args.star.now c.args.marks.now c.args.at.now ≡ false = sym c.may_be_taken.ensures ∙ c.if-not-may_be_taken.true in
+    sym (append-nil c.args.ops.now.items) ∙ ap (λ ops. c.args.ops.now.items ++ ops) (to_none c.args.star.now c.args.marks.now c.args.at.now none c.args.apexes.now)
