@@ -105,7 +105,9 @@ fn cone_is_above(old: u32, first: &Tet, v: Place, face: [Place; 3]) -> bool
 fn are_above(old: u32, first: &Tet, v: Place, outer: &[OuterFace]) -> bool
     ensures { result ≡ are_above old first.now v outer.now }
 {
-    outer.iter().all(|one| cone_is_above(old, first, v, one.face))
+    outer
+        .iter()
+        .all(|one| cone_is_above(old, first, v, one.face))
 }
 
 /// Whether `v` sees each face, and each tetrahedron over one of them is of more than this quality.
