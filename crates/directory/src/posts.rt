@@ -13,7 +13,6 @@ use std::alloc::Global;
 pub fn everything(alloc: Global, store: &Store) -> Result<Post, Memory>
     ensures { IfOk result (λ post. post ≡ posted_by store.now) }
 {
-    let _ = (alloc, store);
     Err(Memory)
 }
 
@@ -29,7 +28,6 @@ pub fn for_home(
     requires parts { 1 ≤ parts }
     ensures { IfOk result (λ post. post ≡ for_home (home_of j parts) target all.now) }
 {
-    let _ = (alloc, all, target, j, parts);
     Err(Memory)
 }
 

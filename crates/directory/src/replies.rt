@@ -47,7 +47,6 @@ impl Directory {
         ensures ok { OnOk result (self.new ≡ put_in sender post.now self.old) }
         ensures err { OnErr result (self.new ≡ self.old) }
     {
-        let _ = (alloc, sender, post);
         Err(Memory)
     }
 
@@ -56,7 +55,6 @@ impl Directory {
     pub fn reply(&self, alloc: Global, target: Label) -> Result<Reply, Memory>
         ensures { IfOk result (λ reply. reply ≡ reply_of self.now target) }
     {
-        let _ = (alloc, target);
         Err(Memory)
     }
 }

@@ -16,6 +16,5 @@ pub fn rebuild(alloc: Global, store: &mut Store, got: &[(Label, Batch)]) -> Resu
     ensures ok { OnOk result (store.new ≡ rebuilt store.old got.now) }
     ensures err { OnErr result (store.new ≡ store.old) }
 {
-    let _ = (alloc, store, got);
     Err(Memory)
 }

@@ -17,7 +17,6 @@ pub fn ghosts_among(
     requires { own.now ≡ store.now.own }
     ensures { IfOk result (λ batch. batch ≡ ghosts_for store.now target) }
 {
-    let _ = (alloc, store, own, target);
     Err(Memory)
 }
 

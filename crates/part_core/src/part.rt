@@ -76,7 +76,6 @@ impl Part {
         ensures answer { Answers result (begun (rules self.old.course) round self.old.standing).answer }
         ensures leaves { Leaves result (begun (rules self.old.course) round self.old.standing) (round + 1) self.old self.new out.old.items out.new.items }
     {
-        let _ = (alloc, round, out);
         self.spent = true;
         Err(PartFault::Memory)
     }
@@ -94,7 +93,6 @@ impl Part {
         ensures answer { Answers result (handed (rules self.old.course) self.old.standing (taken letter)).answer }
         ensures leaves { Leaves result (handed (rules self.old.course) self.old.standing (taken letter)) self.old.begun self.old self.new out.old.items out.new.items }
     {
-        let _ = (alloc, letter, out);
         self.spent = true;
         Err(PartFault::Memory)
     }

@@ -88,7 +88,6 @@ impl Store {
     pub fn own_tets(&self, alloc: Global) -> Result<Ascending<Tet>, Memory>
         ensures { IfOk result (λ tets. tets ≡ self.now.own) }
     {
-        let _ = alloc;
         Err(Memory)
     }
 
@@ -96,7 +95,6 @@ impl Store {
     pub fn own_corners(&self, alloc: Global) -> Result<Ascending<Place>, Memory>
         ensures { IfOk result (λ places. places ≡ corner_set self.now.own) }
     {
-        let _ = alloc;
         Err(Memory)
     }
 
@@ -111,7 +109,6 @@ impl Store {
     pub fn marks_on(&self, alloc: Global, tets: &[Tet]) -> Result<Ascending<Mark>, Memory>
         ensures { IfOk result (λ marks. marks ≡ marks_on tets.now self.now.marks) }
     {
-        let _ = (alloc, tets);
         Err(Memory)
     }
 

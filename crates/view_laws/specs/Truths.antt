@@ -43,7 +43,7 @@ module _ (course : Course) (mesh : LabelledMesh) (carried : ℕ → List CellMar
   -- that the mesh is labelled by the parts of the course, is on the grid of the round, and that its marks are carried so
   pub record IsShared : Type 0 where
     pub parts : 1 ≤ course.parts
-    pub mesh : IsLabelled course.parts mesh
+    pub labelled : IsLabelled course.parts mesh
     pub known : AreCarried course.parts mesh carried
     pub tets : are_on_grid (course.grid - round) (map tet_of mesh.tets) ≡ true
     pub marks : marks_are_on_grid (course.grid - round) mesh.marks ≡ true
