@@ -8,7 +8,7 @@ ghost use Rattle.ma_cells.specs.Stars.{marks_at};
 ghost use Rattle.ma_cells.specs.Tetrahedron.{tet_cmp};
 ghost use Rattle.ma_cells.specs.Views.{ghost_cmp};
 ghost use Rattle.part_store.specs.Agreement.{owner_of, residents_of, star_in};
-ghost use Rattle.part_store.specs.Labelled.{marks_on};
+ghost use Rattle.part_store.specs.Labelled.{corner_set, marks_on};
 ghost use Rattle.part_store.specs.Stores.{own_after, replaced, started, view_in, with_ghosts, with_marks, with_shared};
 
 use crate::around::{around, labels_of, owner_of};
@@ -84,6 +84,34 @@ impl Store {
         self.own.len() as u64
     }
 
+    /// The part's own tetrahedra, in a list of their own.
+    pub fn own_tets(&self, alloc: Global) -> Result<Ascending<Tet>, Memory>
+        ensures { IfOk result (λ tets. tets ≡ self.now.own) }
+    {
+        Err(Memory)
+    }
+
+    /// The corners of the part's own tetrahedra, in n log n steps.
+    pub fn own_corners(&self, alloc: Global) -> Result<Ascending<Place>, Memory>
+        ensures { IfOk result (λ places. places ≡ corner_set self.now.own) }
+    {
+        Err(Memory)
+    }
+
+    /// The marks here that are on cells of the part's own tetrahedra, in n log n steps.
+    pub fn own_marks(&self, alloc: Global) -> Result<Ascending<Mark>, Memory>
+        ensures { IfOk result (λ marks. marks ≡ marks_on self.now.own self.now.marks) }
+    {
+        self.marks_on(alloc, self.own.as_slice())
+    }
+
+    /// The marks here that are on cells of these tetrahedra, in n log n steps.
+    pub fn marks_on(&self, alloc: Global, tets: &[Tet]) -> Result<Ascending<Mark>, Memory>
+        ensures { IfOk result (λ marks. marks ≡ marks_on tets.now self.now.marks) }
+    {
+        Err(Memory)
+    }
+
     /// The places that the part shares with others. Takes no memory.
     pub fn shared(&self) -> &[Shared]
         ensures { result.now ≡ self.now.shared }
@@ -147,14 +175,6 @@ impl Store {
         Ok(())
     }
 
-    /// The marks here that are on cells of the part's own tetrahedra.
-    fn own_marks(&self, alloc: Global) -> Result<Vec<Mark>, Memory>
-        ensures { IfOk result (λ marks. marks.items ≡ marks_on self.now.own self.now.marks) }
-    {
-        let marks = Vec::from_slice(alloc, self.marks.as_slice())?;
-        marks_on(alloc, self.own.as_slice(), marks)
-    }
-
     /// Puts the tetrahedra of these batches, with their labels, in place of the old ghosts, and joins
     /// the marks of the batches to those on cells of own tetrahedra.
     pub fn set_ghosts(&mut self, alloc: Global, ghosts: &[(Label, Batch)]) -> Result<(), Memory>
@@ -164,7 +184,7 @@ impl Store {
     {
         let got = tets_got(alloc, ghosts)?;
         let seen = all_of(alloc, self.own.as_slice(), got.as_slice())?;
-        let mut marks = self.own_marks(alloc)?;
+        let mut marks = self.own_marks(alloc)?.into_vec();
         let joined = marks_on(alloc, seen.as_slice(), marks_got(alloc, ghosts)?)?;
         marks.extend_from_slice(joined.as_slice())?;
         self.ghosts = ghost_set(got);
@@ -206,7 +226,7 @@ impl Store {
         ensures err { OnErr result (self.new ≡ self.old) }
     {
         let own = self.own_after(alloc, ended, added)?;
-        let mut joined = self.own_marks(alloc)?;
+        let mut joined = self.own_marks(alloc)?.into_vec();
         joined.extend_from_slice(added.marks.as_slice())?;
         let kept = marks_on(alloc, own.as_slice(), joined)?;
         self.own = own;

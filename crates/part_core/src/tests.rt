@@ -1,0 +1,2 @@
+// Values that were worked out by hand.
+use super::*;
