@@ -1,0 +1,6 @@
+mod Numbered
+mod MeshItems
+mod HomesBelow
+mod Counts
+mod Postings
+mod Showings
