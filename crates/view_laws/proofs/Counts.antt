@@ -12,7 +12,7 @@ use Rattle.part_phases.specs.Inboxes.{below, gathered}
 use Rattle.part_rules.specs.Ends.{after_posts, counted, if_within, total_by}
 use Rattle.part_rules.specs.Owed.{IsLabelled, holding, owed_post}
 use Rattle.part_store.specs.Labelled.{LabelledMesh, has_label, own_of, tet_of}
-use Rattle.part_store.proofs.Members.{In, filter-all}
+use Rattle.part_store.proofs.Members.{filter-all}
 use Rattle.view_laws.proofs.MeshItems.{label-below}
 
 sum_of : (ℕ → ℕ) → List ℕ → ℕ
@@ -40,17 +40,17 @@ without f me (suc n) =
     let more = sum-more f n in
     let less = sum-more (other me f) n in
     let last : other me f n + cond (nat_lt me (suc n)) (f me) 0 ≡ cond (nat_lt me n) (f me) 0 + f n =
-        elim (n == me) as (λ b. (n == me) ≡ b → cond b 0 (f n) + cond (nat_lt me (suc n)) (f me) 0 ≡ cond (nat_lt me n) (f me) 0 + f n) [
-          | true ↦ λ e.
-              let same : n ≡ me = grind (arith, nat_tests) in
-              let above : nat_lt me n ≡ false = grind (arith, nat_tests) in
-              let within : nat_lt me (suc n) ≡ true = grind (arith, nat_tests) in
-              let value : f n ≡ f me = ap f same in
-              rw (above, within) (omega arith)
-          | false ↦ λ e.
-              let alike : nat_lt me (suc n) ≡ nat_lt me n = grind (arith, nat_tests) in
-              rw alike (omega arith)
-        ] refl in
+    elim (n == me) as (λ b. (n == me) ≡ b → cond b 0 (f n) + cond (nat_lt me (suc n)) (f me) 0 ≡ cond (nat_lt me n) (f me) 0 + f n) [
+      | true ↦ λ e.
+          let same : n ≡ me = grind (arith, nat_tests) in
+          let above : nat_lt me n ≡ false = grind (arith, nat_tests) in
+          let within : nat_lt me (suc n) ≡ true = grind (arith, nat_tests) in
+          let value : f n ≡ f me = ap f same in
+          rw (above, within) (omega arith)
+      | false ↦ λ e.
+          let alike : nat_lt me (suc n) ≡ nat_lt me n = grind (arith, nat_tests) in
+          rw alike (omega arith)
+    ] refl in
     omega arith
 
 -- ---- tetrahedra by their labels

@@ -4,3 +4,7 @@ mod HomesBelow
 mod Counts
 mod Postings
 mod Showings
+mod OnGrid
+mod Following
+mod FirstRound
+mod Unions

@@ -1,6 +1,6 @@
 -- What a labelled mesh has, item by item: marks, places, and cells of tetrahedra.
-use Rattle.std.proofs.Common.{◌≡◌, ℕ, ◌<◌, inl, Bool, true, List, [], ◌∷◌, refl}
-use Rattle.std.specs.List.{AllByRecursion, flat_map}
+use Rattle.std.proofs.Common.{◌≡◌, ℕ, ◌<◌, inl, true, List, [], ◌∷◌, refl}
+use Rattle.std.specs.List.{flat_map}
 use Rattle.std.proofs.lemmas.Bool.{false≢true}
 use Rattle.ma_geom.specs.Coordinates.{Coordinates, place_cmp}
 use Rattle.ma_geom.proofs.PlaceOrder.{place_cmp-IsAntisymmetric, place_cmp_total}
@@ -15,7 +15,7 @@ use Rattle.ma_cells.proofs.CellOrders.{mark_cmp_total, mark_cmp-IsAntisymmetric}
 use Rattle.ma_cells.proofs.Passing.{all_pass}
 use Rattle.directory.specs.Posting.{least_corner}
 use Rattle.part_rules.specs.Owed.{AreCarried, IsLabelled}
-use Rattle.part_store.specs.Labelled.{LabelledMesh, corner_set, label_of, own_of, touches}
+use Rattle.part_store.specs.Labelled.{LabelledMesh, corner_set, own_of, touches}
 use Rattle.part_store.proofs.Members.{In, all-in, any-in, from-any, in-flat_map, from-flat_map, in-has, from-has, in-ascending_of, from-ascending_of}
 
 -- ---- places and marks

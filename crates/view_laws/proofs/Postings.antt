@@ -1,5 +1,5 @@
 -- What parts post and what homes reply is what the mesh says, and the replies leave all marks on a part's cells.
-use Rattle.std.proofs.Common.{◌≡◌, ℕ, ◌<◌, ◌⊎◌, inl, inr, Bool, true, cond, ◌&&◌, nat_le, nat_lt, List, [], ◌∷◌, ◌++◌, filter, Some, None, length, refl, ap, subst, ◌∙◌, arith}
+use Rattle.std.proofs.Common.{◌≡◌, ℕ, ◌<◌, inl, inr, Bool, true, cond, ◌&&◌, nat_le, nat_lt, List, [], ◌++◌, filter, Some, None, length, refl, ap, subst, ◌∙◌, arith}
 use Rattle.std.specs.Prelude.{map, ◌==◌}
 use Rattle.std.specs.List.{flat_map}
 use Rattle.std.specs.Cmp.{both_ways}
@@ -62,7 +62,7 @@ module _ (parts : ℕ) (home : Coordinates → ℕ) (homes : (x : Coordinates) �
   places_are h q within =
       let all : nat_lt q parts ≡ true = grind arith in
       let found : body_from q (posts_to h) ≡ Some (owed_post parts home mesh carried q h) =
-          find-gathered (λ p. owed_post parts home mesh carried p h) parts q ∙ ap (λ b. cond b (Some (owed_post parts home mesh carried q h)) None) all in
+      find-gathered (λ p. owed_post parts home mesh carried p h) parts q ∙ ap (λ b. cond b (Some (owed_post parts home mesh carried q h)) None) all in
       ap places_in found
 
   shared-agree : (who who' : Coordinates → List ℕ) (places : List Coordinates) → ((x : Coordinates) → In x places → who x ≡ who' x) → shared_of who places ≡ shared_of who' places
@@ -150,16 +150,16 @@ module _ (parts : ℕ) (home : Coordinates → ℕ) (homes : (x : Coordinates) �
       let all = carried q ++ marks_got q in
       let on : CellMark → Bool = λ m. is_on own m.cell in
       let shared : flat_map {X = ℕ × Reply} (λ entry. entry.1.shared) (replies_to q) ≡ flat_map (λ h. (owed_reply parts home mesh carried h q).shared) (below parts) =
-          flat-listed (λ h. owed_reply parts home mesh carried h q) (λ reply. reply.shared) (below parts) in
+      flat-listed (λ h. owed_reply parts home mesh carried h q) (λ reply. reply.shared) (below parts) in
       let marks : ascending_of mark_cmp (marks_on own all) ≡ marks_on own mesh.marks =
-          is_made mark_cmp_total mark_cmp-IsAntisymmetric (filter on all) (filter on mesh.marks) (IsStrictlySortedBy-filter mark_cmp on mesh.marks right.marks)
-          (λ m k.
-          let r = from-filter on all m k in
-          in-filter on mesh.marks m (elim (from-append (carried q) (marks_got q) m r.0) [
-            | inl a ↦ (carried-right parts mesh carried known q m within a).0
-            | inr b ↦ from-replied q m b
-          ]) r.1)
-          (λ m k.
-          let r = from-filter on mesh.marks m k in
-          in-filter on all m (in-append_right (carried q) (marks_got q) m (in-replied q m r.0 r.1)) r.1) in
+      is_made mark_cmp_total mark_cmp-IsAntisymmetric (filter on all) (filter on mesh.marks) (IsStrictlySortedBy-filter mark_cmp on mesh.marks right.marks)
+      (λ m k.
+      let r = from-filter on all m k in
+      in-filter on mesh.marks m (elim (from-append (carried q) (marks_got q) m r.0) [
+        | inl a ↦ (carried-right parts mesh carried known q m within a).0
+        | inr b ↦ from-replied q m b
+      ]) r.1)
+      (λ m k.
+      let r = from-filter on mesh.marks m k in
+      in-filter on all m (in-append_right (carried q) (marks_got q) m (in-replied q m r.0 r.1)) r.1) in
       λ i. record { part = q; own = own; ghosts = []; marks = marks i; shared = shared i }

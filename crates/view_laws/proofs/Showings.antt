@@ -1,7 +1,7 @@
 -- What parts show to each other is what the mesh says, and leaves to each its view.
 use Rattle.std.proofs.Common.{◌≡◌, ◌≢◌, ℕ, ◌<◌, inl, inr, Bool, true, false, cond, not, ◌&&◌, nat_le, List, [], ◌∷◌, ◌++◌, filter, length, refl, sym, ap, subst, ◌∙◌, eqb-true}
 use Rattle.std.specs.Prelude.{map, ◌==◌}
-use Rattle.std.specs.List.{flat_map, list_any}
+use Rattle.std.specs.List.{list_any}
 use Rattle.std.specs.Ordering.{eq_by_cmp, is_eq}
 use Rattle.std.specs.Cmp.{both_ways, Equal-is, tied_itself}
 use Rattle.std.proofs.lemmas.Bool.{and_from, and_parts, eq-eqb, eqb-false, le-leb, ne_eqb, not-true, not_from_false}
@@ -16,7 +16,6 @@ use Rattle.ma_cells.specs.Views.{ghost_cmp}
 use Rattle.ma_cells.specs.declared.batch.Batch.{Batch}
 use Rattle.ma_cells.proofs.CellOrders.{ghost_cmp_total, ghost_cmp-IsAntisymmetric, mark_cmp_total, mark_cmp-IsAntisymmetric}
 use Rattle.letters.specs.Sharing.{SharedPlace}
-use Rattle.directory.specs.Posting.{shared_of}
 use Rattle.ghost_layer.specs.GhostRule.{batch_of, bordering, is_shared_with, near}
 use Rattle.part_phases.specs.Inboxes.{Inbox, below, gathered}
 use Rattle.part_rules.specs.Ends.{after_ghosts}
@@ -99,16 +98,16 @@ module _ (parts : ℕ) (home : Coordinates → ℕ) (homes : (x : Coordinates) �
       let own = own_of mesh p in
       let given = touching p q in
       let tets : bordering (holding parts home mesh carried 2 p) q ≡ given =
-          filter-agree (λ t. list_any (is_shared_with (shared_in parts home mesh carried p) q) t.corners) (touches (corners_at mesh q)) own (λ t h. shared-touches p q t below_p below_q differ h) in
+      filter-agree (λ t. list_any (is_shared_with (shared_in parts home mesh carried p) q) t.corners) (touches (corners_at mesh q)) own (λ t h. shared-touches p q t below_p below_q differ h) in
       let marks : marks_on given (marks_on own mesh.marks) ≡ marks_on given mesh.marks =
-          filter-filter (λ m. is_on own m.cell) (λ m. is_on given m.cell) mesh.marks
-          (λ m _ h. on-more given own m.cell (λ t k. (from-filter (touches (corners_at mesh q)) own t k).0) h) in
+      filter-filter (λ m. is_on own m.cell) (λ m. is_on given m.cell) mesh.marks
+      (λ m _ h. on-more given own m.cell (λ t k. (from-filter (touches (corners_at mesh q)) own t k).0) h) in
       ap (λ l. batch_of l (marks_on own mesh.marks)) tets ∙ ap (λ (ms : List CellMark). let b : Batch = record { tets = given; marks = ms } in b) marks
 
   pub ghosts_are : (p q : ℕ) → p < parts → q < parts → shown_to (holding parts home mesh carried 2 p) q ≡ owed_ghosts parts home mesh carried p q
   ghosts_are p q below_p below_q =
       elim (q == p) as (λ b. (q == p) ≡ b → cond b (batch_of [] []) (batch_of (bordering (holding parts home mesh carried 2 p) q) (marks_on (own_of mesh p) mesh.marks))
-        ≡ cond b (batch_of [] []) (batch_of (touching p q) mesh.marks)) [
+      ≡ cond b (batch_of [] []) (batch_of (touching p q) mesh.marks)) [
         | true ↦ λ e. refl
         | false ↦ λ e. for_other p q below_p below_q (λ same. eqb-false q p e (sym same))
       ] refl
