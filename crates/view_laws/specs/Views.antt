@@ -1,5 +1,5 @@
 -- What parts see at the end of a round, whatever the order in which letters come, and that this together is the mesh.
-use Rattle.std.specs.Prelude.{◌≡◌, ◌+◌, ◌-◌, ◌*◌, ◌<◌, ◌≤◌, ℕ, Bool, true, false, ◌&&◌, ◌==◌, List, [], map, length, filter, Option, Some, None}
+use Rattle.std.specs.Prelude.{◌≡◌, ◌-◌, ◌*◌, ◌<◌, ◌≤◌, ℕ, Bool, true, false, ◌&&◌, ◌==◌, List, [], map, length, filter, Option, Some, None}
 use Rattle.std.specs.List.{flat_map}
 use Rattle.ma_cells.specs.Ascending.{ascending_of}
 use Rattle.ma_cells.specs.Cells.{CellMark, mark_cmp}

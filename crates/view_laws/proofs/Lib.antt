@@ -1,0 +1,10 @@
+mod Numbered
+mod MeshItems
+mod HomesBelow
+mod Counts
+mod Postings
+mod Showings
+mod OnGrid
+mod Following
+mod FirstRound
+mod Unions
