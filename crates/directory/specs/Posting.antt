@@ -1,5 +1,5 @@
 -- What parts post to the homes of their corners, and what a home replies.
-use Rattle.std.specs.Prelude.{ℕ, ◌-◌, ◌^◌, ◌==◌, min, nat_le, List, [], ◌∷◌, length, filter, map, get_or, Option, Some, None, pos}
+use Rattle.std.specs.Prelude.{ℕ, ◌-◌, ◌^◌, ◌==◌, min, nat_le, List, [], length, filter, map, get_or, Option, Some, None, pos}
 use Rattle.std.specs.List.{flat_map}
 use Rattle.ma_geom.specs.Coordinates.{Coordinates, place_cmp}
 use Rattle.ma_cells.specs.Ascending.{ascending_of, has}

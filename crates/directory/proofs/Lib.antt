@@ -1,0 +1,4 @@
+mod Bodies
+mod Marked
+mod Selected
+mod Senders
