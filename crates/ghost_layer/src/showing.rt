@@ -2,7 +2,7 @@
 ghost use Rattle.std.specs.Prelude.{◌≡◌, IfOk};
 ghost use Rattle.ghost_layer.specs.GhostRule.{ghosts_for};
 
-use ma_cells::{Batch, Label, Tet};
+use ma_cells::{Ascending, Batch, Label, Tet};
 use ma_geom::Memory;
 use part_store::Store;
 use std::alloc::Global;
@@ -11,7 +11,7 @@ use std::alloc::Global;
 pub fn ghosts_among(
     alloc: Global,
     store: &Store,
-    own: &[Tet],
+    own: &Ascending<Tet>,
     target: Label,
 ) -> Result<Batch, Memory>
     requires { own.now ≡ store.now.own }
@@ -26,5 +26,5 @@ pub fn ghosts_for(alloc: Global, store: &Store, target: Label) -> Result<Batch, 
     ensures { IfOk result (λ batch. batch ≡ ghosts_for store.now target) }
 {
     let own = store.own_tets(alloc)?;
-    ghosts_among(alloc, store, own.as_slice(), target)
+    ghosts_among(alloc, store, &own, target)
 }
