@@ -3,6 +3,7 @@
 
 mod rebuilding;
 mod showing;
+mod touching;
 
 pub use rebuilding::rebuild;
 pub use showing::{ghosts_among, ghosts_for};

@@ -3,6 +3,7 @@
 
 mod around;
 mod batches;
+mod corners;
 mod laws;
 mod marks;
 mod store;

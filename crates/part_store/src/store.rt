@@ -13,6 +13,7 @@ ghost use Rattle.part_store.specs.Stores.{own_after, replaced, started, view_in,
 
 use crate::around::{around, labels_of, owner_of};
 use crate::batches::{all_of, marks_got, tets_got};
+use crate::corners::corner_set;
 use crate::marks::{mark_set, marks_at, marks_on};
 use letters::Shared;
 use ma_cells::{Ascending, Batch, Cell, Label, Mark, Tet, View};
@@ -88,14 +89,15 @@ impl Store {
     pub fn own_tets(&self, alloc: Global) -> Result<Ascending<Tet>, Memory>
         ensures { IfOk result (λ tets. tets ≡ self.now.own) }
     {
-        Err(Memory)
+        let tets = Vec::from_slice(alloc, self.own.as_slice())?;
+        Ok(Ascending::from_vec(tets))
     }
 
     /// The corners of the part's own tetrahedra, in n log n steps.
     pub fn own_corners(&self, alloc: Global) -> Result<Ascending<Place>, Memory>
         ensures { IfOk result (λ places. places ≡ corner_set self.now.own) }
     {
-        Err(Memory)
+        corner_set(alloc, self.own.as_slice())
     }
 
     /// The marks here that are on cells of the part's own tetrahedra, in n log n steps.
@@ -109,7 +111,9 @@ impl Store {
     pub fn marks_on(&self, alloc: Global, tets: &[Tet]) -> Result<Ascending<Mark>, Memory>
         ensures { IfOk result (λ marks. marks ≡ marks_on tets.now self.now.marks) }
     {
-        Err(Memory)
+        let marks = Vec::from_slice(alloc, self.marks.as_slice())?;
+        let kept = marks_on(alloc, tets, marks)?;
+        Ok(Ascending::from_vec(kept))
     }
 
     /// The places that the part shares with others. Takes no memory.

@@ -99,6 +99,24 @@ fn one_tetrahedron_is_counted(rt: HostRuntime) {
     assert!(rt; counts(rt.alloc()) == Ok(true));
 }
 
+fn lists_own(alloc: Global) -> Result<bool, Memory> {
+    let store = with_ghost(alloc)?;
+    let tets = store.own_tets(alloc)?;
+    let corners = store.own_corners(alloc)?;
+    let marks_on_high = store.marks_on(alloc, &[high()])?;
+    let [_, far, face, _] = marks();
+    Ok(
+        tets.as_slice() == [low()].as_slice()
+            && corners.as_slice() == [at(0, 0, 0), at(0, 0, 8), at(0, 8, 0), at(8, 0, 0)].as_slice()
+            && marks_on_high.as_slice() == [far, face].as_slice(),
+    )
+}
+
+#[test]
+fn own_tetrahedra_their_corners_and_marks_on_others_are_listed(rt: HostRuntime) {
+    assert!(rt; lists_own(rt.alloc()) == Ok(true));
+}
+
 fn sees_ghosts(alloc: Global) -> Result<bool, Memory> {
     let view = with_ghost(alloc)?.view(alloc)?;
     let [origin, far, face, _] = marks();
