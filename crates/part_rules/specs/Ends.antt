@@ -1,5 +1,5 @@
 -- What the letters of a phase leave.
-use Rattle.std.specs.Prelude.{ℕ, ◌+◌, ◌==◌, not, nat_le, List, [], ◌∷◌, filter, length, Result, Ok, Err, if◌then◌else◌}
+use Rattle.std.specs.Prelude.{ℕ, ◌+◌, ◌==◌, not, nat_le, [], ◌∷◌, filter, length, Result, Ok, Err, if◌then◌else◌}
 use Rattle.std.specs.List.{flat_map}
 use Rattle.ma_cells.specs.declared.batch.Batch.{Batch}
 use Rattle.letters.specs.declared.letter.Post.{Post}
