@@ -1,5 +1,5 @@
 // The store of a part.
-ghost use Rattle.std.specs.Prelude.{◌≡◌, ◌≢◌, ◌∷◌, [], length, IfOk, OnErr, OnOk};
+ghost use Rattle.std.specs.Prelude.{◌≡◌, ◌≢◌, ◌<◌, ◌^◌, ◌∷◌, [], length, IfOk, OnErr, OnOk};
 ghost use Rattle.std.specs.List.{All};
 ghost use Rattle.std.specs.List.Sorted.{IsStrictlySortedBy};
 ghost use Rattle.ma_cells.specs.Ascending.{ascending_of};
@@ -80,9 +80,10 @@ impl Store {
 
     /// How many tetrahedra the part has. Takes no memory.
     pub fn own_count(&self) -> u64
-        ensures { result ≡ length self.now.own }
+        ensures value { result ≡ length self.now.own }
+        ensures few { result < 2 ^ 63 }
     {
-        self.own.len() as u64
+        self.own.as_slice().len() as u64
     }
 
     /// The part's own tetrahedra, in a list of their own.
