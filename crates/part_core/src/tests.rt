@@ -1,2 +1,0 @@
-// Values that were worked out by hand.
-use super::*;
