@@ -10,12 +10,11 @@ use Rattle.ma_geom.specs.Signs.{same_sign, side_of}
 use Rattle.ma_cells.specs.Ascending.{has}
 use Rattle.ma_cells.specs.Cells.{CellMark}
 use Rattle.ma_cells.specs.Stars.{besides, cone}
-use Rattle.ma_cells.specs.Tetrahedron.{Tetrahedron, tet_cmp, tetrahedron_of}
+use Rattle.ma_cells.specs.Tetrahedron.{Tetrahedron, tetrahedron_of}
 use Rattle.ma_cells.specs.Worst.{least, worst}
 use Rattle.ma_cells.proofs.CellOrders.{tet_cmp-IsAntisymmetric}
 use Rattle.cavity_rank.specs.Verdicts.{first_failing, verdict_of}
 use Rattle.cavity_collapse.specs.Judging.{legal_quality}
-use Rattle.cavity_collapse.specs.Steps.{each_passes}
 use Rattle.cavity_collapse.proofs.Listed.{all_listed}
 use Rattle.cavity_collapse.proofs.Worsts.{least_set, qualities}
 use Rattle.cavity_swap.specs.Judging.{has_one_region, is_bad, is_bare, judged_swap, outer_faces_are_seen}

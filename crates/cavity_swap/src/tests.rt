@@ -112,9 +112,10 @@ fn qualities_from(alloc: Global) -> Result<[Option<u32>; 2], Memory> {
     let mut outer = Vec::new(alloc);
     find_outer(&mut outer, &cavity)?;
     let faces = outer.as_slice();
+    let old = cavity_collapse::worst(&cavity);
     Ok([
-        quality_from(&cavity, faces, at(T), 220254733),
-        quality_from(&cavity, faces, at(O), 220254733),
+        quality_from(&cavity, faces, at(T), old),
+        quality_from(&cavity, faces, at(O), old),
     ])
 }
 

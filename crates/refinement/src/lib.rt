@@ -3,6 +3,7 @@
 
 pub mod laws;
 mod pieces;
+mod recent;
 
 pub use pieces::refined;
 

@@ -5,18 +5,28 @@ ghost use Rattle.ma_cells.specs.Ascending.{are_ascending};
 ghost use Rattle.ma_cells.specs.Cells.{is_cell};
 ghost use Rattle.ma_cells.specs.declared.cell.Cell.TheVariants.{Seg, Tri};
 ghost use Rattle.refinement.specs.Refinement.{long_edges, refine, refined_mark, refined_tet};
+ghost use Rattle.refinement.specs.steps.Recent.{AreRecent};
 ghost use Rattle.split_templates.specs.Pieces.{is_straight, pieces_of};
 
+use crate::recent::{Recent, first_entries, marked};
 use ma_cells::{Batch, Cell, Mark, Tet};
 use ma_geom::{Memory, Place, collinear};
 use size_marks::SizeField;
-use split_templates::{children, marked, marked_seg, marked_tri, split_seg, split_tri};
+use split_templates::{children, marked_seg, marked_tri, split_seg, split_tri};
 use std::alloc::Global;
 
-fn push_pieces(pieces: &mut Vec<Tet>, tet: &Tet, field: &SizeField) -> Result<(), Memory>
-    ensures { OnOk result (pieces.new.items ≡ pieces.old.items ++ refined_tet field.now tet.now) }
+fn push_pieces(
+    pieces: &mut Vec<Tet>,
+    entries: &mut [Recent],
+    tet: &Tet,
+    field: &SizeField,
+) -> Result<(), Memory>
+    requires { AreRecent field.now entries.old }
+    ensures pieces { OnOk result (pieces.new.items ≡ pieces.old.items ++ refined_tet field.now tet.now) }
+    ensures recent { AreRecent field.now entries.new }
 {
-    pieces.extend_from_slice(children(tet, marked(tet, field)).as_slice())?;
+    let mask = marked(entries, field, tet);
+    pieces.extend_from_slice(children(tet, mask).as_slice())?;
     Ok(())
 }
 
@@ -24,9 +34,10 @@ fn push_pieces(pieces: &mut Vec<Tet>, tet: &Tet, field: &SizeField) -> Result<()
 fn tet_pieces(alloc: Global, tets: &[Tet], field: &SizeField) -> Result<Vec<Tet>, Memory>
     ensures { IfOk result (λ pieces. pieces.items ≡ flat_map (refined_tet field.now) tets.now) }
 {
+    let mut entries = first_entries(alloc, field)?;
     let mut pieces = Vec::with_capacity(alloc, tets.len())?;
     for tet in tets {
-        push_pieces(&mut pieces, tet, field)?;
+        push_pieces(&mut pieces, &mut entries, tet, field)?;
     }
     Ok(pieces)
 }

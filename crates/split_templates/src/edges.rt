@@ -1,8 +1,9 @@
 // Edges: which are marked, and their order.
-ghost use Rattle.std.specs.Prelude.{◌≡◌, ◌<◌, ◌≤◌, ◌^◌, length, map, filter};
+ghost use Rattle.std.specs.Prelude.{◌≡◌, ◌<◌, ◌≤◌, ◌^◌, ◌∷◌, [], length, map, filter};
 ghost use Rattle.arrayvec.specs.ArrayVec.{array_vec_len};
 ghost use Rattle.ma_cells.specs.Ascending.{ascending_of};
 ghost use Rattle.ma_cells.specs.Faces.{edges_of};
+ghost use Rattle.size_marks.specs.Field.{size_at};
 ghost use Rattle.split_templates.specs.Edges.{chosen, edge_cmp, is_long_edge, mask_of};
 ghost use Rattle.split_templates.specs.steps.Ranks.{ranked};
 
@@ -10,7 +11,7 @@ use crate::put::put;
 use arrayvec::ArrayVec;
 use ma_cells::Tet;
 use ma_geom::{Place, len2};
-use size_marks::SizeField;
+use size_marks::{SizeField, SizedPlace};
 
 /// A set of edges of a cell: bit i stands for edge i, in the order 01, 02, 03, 12, 13, 23.
 pub type EdgeMask = u8;
@@ -65,17 +66,21 @@ fn bits_of(long: &[bool]) -> EdgeMask
     }
 }
 
-/// Which pairs of these places are long edges, in the order 01, 02, 03, 12, 13, 23.
-fn are_long(corners: [Place; 4], field: &SizeField) -> [bool; 6]
-    ensures { result ≡ map (is_long_edge field.now) (edges_of corners) }
+/// Which pairs of four places, whose sizes are those of the field, are long edges, in the order 01,
+/// 02, 03, 12, 13, 23.
+fn are_long(
+    a: SizedPlace,
+    b: SizedPlace,
+    c: SizedPlace,
+    d: SizedPlace,
+    field: &SizeField,
+) -> [bool; 6]
+    requires a_sized { a.size ≡ size_at field.now a.place }
+    requires b_sized { b.size ≡ size_at field.now b.place }
+    requires c_sized { c.size ≡ size_at field.now c.place }
+    requires d_sized { d.size ≡ size_at field.now d.place }
+    ensures { result ≡ map (is_long_edge field.now) (edges_of (a.place ∷ b.place ∷ c.place ∷ d.place ∷ [])) }
 {
-    let [a, b, c, d] = corners;
-    let (a, b, c, d) = (
-        field.sized(a),
-        field.sized(b),
-        field.sized(c),
-        field.sized(d),
-    );
     [
         field.is_long_between(a, b),
         field.is_long_between(a, c),
@@ -86,13 +91,40 @@ fn are_long(corners: [Place; 4], field: &SizeField) -> [bool; 6]
     ]
 }
 
+/// The long edges of a tetrahedron by its corners, whose sizes are those of the field, so that none
+/// is looked up. Takes no memory.
+pub fn marked_between(
+    a: SizedPlace,
+    b: SizedPlace,
+    c: SizedPlace,
+    d: SizedPlace,
+    field: &SizeField,
+) -> EdgeMask
+    requires a_sized { a.size ≡ size_at field.now a.place }
+    requires b_sized { b.size ≡ size_at field.now b.place }
+    requires c_sized { c.size ≡ size_at field.now c.place }
+    requires d_sized { d.size ≡ size_at field.now d.place }
+    ensures value { result ≡ mask_of (is_long_edge field.now) (edges_of (a.place ∷ b.place ∷ c.place ∷ d.place ∷ [])) }
+    ensures bound { result < 64 }
+    ensures long { chosen result (edges_of (a.place ∷ b.place ∷ c.place ∷ d.place ∷ [])) ≡ filter (is_long_edge field.now) (edges_of (a.place ∷ b.place ∷ c.place ∷ d.place ∷ [])) }
+{
+    bits_of(&are_long(a, b, c, d, field))
+}
+
 /// The long edges of a tetrahedron. Takes no memory.
 pub fn marked(t: &Tet, field: &SizeField) -> EdgeMask
     ensures value { result ≡ mask_of (is_long_edge field.now) (edges_of t.now.corners) }
     ensures bound { result < 64 }
     ensures long { chosen result (edges_of t.now.corners) ≡ filter (is_long_edge field.now) (edges_of t.now.corners) }
 {
-    bits_of(&are_long(t.corners(), field))
+    let [a, b, c, d] = t.corners();
+    marked_between(
+        field.sized(a),
+        field.sized(b),
+        field.sized(c),
+        field.sized(d),
+        field,
+    )
 }
 
 /// The pairs of these places, each in their order.

@@ -6,7 +6,7 @@ mod pieces;
 mod put;
 mod split;
 
-pub use edges::{EdgeMask, marked, marked_seg, marked_tri};
+pub use edges::{EdgeMask, marked, marked_between, marked_seg, marked_tri};
 pub use split::{children, split_seg, split_tri};
 
 #[cfg(test)]

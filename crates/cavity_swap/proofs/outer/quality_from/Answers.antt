@@ -1,4 +1,4 @@
-use Rattle.std.proofs.Common.{◌≡◌, ◌∷◌, true, false, cond, nat_lt, Some, None, drop, ap, sym, ◌∙◌}
+use Rattle.std.proofs.Common.{◌≡◌, ◌∷◌, cond, nat_lt, Some, None, drop, ap, sym, ◌∙◌}
 use Rattle.std.proofs.Math.Seq.{drop-cons}
 use Rattle.ma_cells.specs.Worst.{worst}
 use Rattle.cavity_swap.specs.Outer.{outer_of}
