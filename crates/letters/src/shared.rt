@@ -98,6 +98,14 @@ impl SharedPlaces {
         SharedPlaces { items }
     }
 
+    /// The list. Takes no memory.
+    pub fn into_vec(self) -> Vec<Shared>
+        ensures { result.items ≡ self }
+    {
+        let SharedPlaces { items } = self;
+        items
+    }
+
     pub fn as_slice(&self) -> &[Shared]
         ensures items { result.now ≡ self.now }
         ensures rises { are_behind shared_before None self.now ≡ true }
