@@ -57,11 +57,11 @@ sorted-own mesh p s =
     (all-from_in {X = Tetrahedron × ℕ} (λ e. e.1 ≡ p) (filter (has_label p) mesh.tets) (λ e h. eqb-true e.1 p (from-filter (has_label p) mesh.tets e h).1))
 
 -- ---- numbers of parts in their order
-length-below : (n : ℕ) → length (below n) ≡ n
+pub length-below : (n : ℕ) → length (below n) ≡ n
 length-below zero = refl
 length-below (suc n) = let before = length-below n in let more = length_push (below n) n in omega arith
 
-number_at : (n q : ℕ) → q < n → get_or (below n) q 0 ≡ q
+pub number_at : (n q : ℕ) → q < n → get_or (below n) q 0 ≡ q
 number_at zero q h = absurd (omega arith)
 number_at (suc n) q h =
     let long = length-below n in
@@ -102,13 +102,13 @@ module _ (parts : ℕ) (mesh : LabelledMesh) (right : IsLabelled parts mesh) whe
 
 -- ---- the round
 module _ (course : Course) (mesh : LabelledMesh) (some : 1 ≤ course.parts) (right : IsLabelled course.parts mesh) where
-  abbrev parts : List (Standing StoreState Body)
+  abbrev pub parts : List (Standing StoreState Body)
   parts = map (first_standing mesh) (below course.parts)
 
-  abbrev carried : ℕ → List CellMark
+  abbrev pub carried : ℕ → List CellMark
   carried = first_marks course.parts mesh right
 
-  is_shared : are_on_grid course.grid (map tet_of mesh.tets) ≡ true → marks_are_on_grid course.grid mesh.marks ≡ true → IsShared course mesh carried 0
+  pub is_shared : are_on_grid course.grid (map tet_of mesh.tets) ≡ true → marks_are_on_grid course.grid mesh.marks ≡ true → IsShared course mesh carried 0
   is_shared tets marks =
       let same : course.grid ≡ course.grid - 0 = omega arith in
       record {
@@ -119,12 +119,12 @@ module _ (course : Course) (mesh : LabelledMesh) (some : 1 ≤ course.parts) (ri
         marks = subst (λ k. marks_are_on_grid k mesh.marks ≡ true) same marks;
       }
 
-  first_at : (default : Standing StoreState Body) (q : ℕ) → q < course.parts → part_at default parts q ≡ first_standing mesh q
+  pub first_at : (default : Standing StoreState Body) (q : ℕ) → q < course.parts → part_at default parts q ≡ first_standing mesh q
   first_at default q within =
       let long = length-below course.parts in
       get_or-map (first_standing mesh) (below course.parts) q 0 default (omega arith) ∙ ap (first_standing mesh) (number_at course.parts q within)
 
-  begin_so : (default : Standing StoreState Body) → BeginSo (rules course) (mesh_truth course mesh carried 0) default parts
+  pub begin_so : (default : Standing StoreState Body) → BeginSo (rules course) (mesh_truth course mesh carried 0) default parts
   begin_so default = record {
     all = length-map (below course.parts) (first_standing mesh) ∙ length-below course.parts;
     numbers = λ q within. ap (λ z. z.me) (first_at default q within);

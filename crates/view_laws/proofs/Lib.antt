@@ -1,10 +1,10 @@
-mod Numbered
-mod MeshItems
+pub mod Numbered
+pub mod MeshItems
 mod HomesBelow
 mod Counts
 mod Postings
 mod Showings
 mod OnGrid
-mod Following
-mod FirstRound
-mod Unions
+pub mod Following
+pub mod FirstRound
+pub mod Unions

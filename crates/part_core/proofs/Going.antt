@@ -1,0 +1,85 @@
+-- How the steps of the code compose to what is due.
+use Rattle.std.proofs.Common.{◌≡◌, ℕ, suc, ◌+◌, ◌-◌, ◌≤◌, Bool, true, false, List, [], ◌++◌, map, None, Ok, sym, ap, subst, ◌∙◌, arith, append_assoc}
+use Rattle.std.specs.Prelude.{◌==◌}
+use Rattle.std.proofs.lemmas.Bool.Decides.{nat_tests}
+use Rattle.std.proofs.lemmas.List.{map-append}
+use Rattle.ma_geom.specs.Coordinates.{Coordinates}
+use Rattle.letters.specs.declared.letter.Body.{Body}
+use Rattle.letters.specs.declared.letter.Letter.{Letter}
+use Rattle.part_phases.specs.Phases.{after_entering, answer_after, begins_at, begun, entered, gone_on, is_complete, letters_of, moved, phases_left, if_complete}
+use Rattle.part_phases.specs.Standings as phases
+use Rattle.part_phases.proofs.Kept.{opened}
+use Rattle.part_rules.specs.Rounds.{rules}
+use Rattle.part_rules.specs.declared.course.Course.{Course}
+use Rattle.part_store.specs.Stores.{StoreState}
+use Rattle.part_core.specs.Parts.{Answers, PartState, is_over, sent}
+use Rattle.part_core.specs.steps.Going.{Came, Ended, Gone, Matches, standing_at, step_after}
+use Rattle.part_core.specs.declared.answers.Step.{Step}
+use Rattle.part_core.specs.declared.answers.Step.TheVariants as steps
+
+-- the answer after a phase is entered
+answers_after : (step : Step) (a : phases.Answer Coordinates) (s : phases.Standing StoreState Body) → Answers (Ok step) a → Answers (Ok (step_after s.phase step)) (answer_after s a)
+answers_after steps.Waiting a s e = ap (answer_after s) e
+answers_after (steps.Moved n) a s e = ap (answer_after s) e
+answers_after steps.RoundDone a s e = ap (answer_after s) e
+answers_after (steps.Over n total) a s e = ap (answer_after s) e
+
+-- a phase is entered, and then the part goes on
+pub entering : (first mid new : PartState) (step : Step) (before between after : List Letter) → mid ≡ standing_at first (entered (rules first.course) first.standing)
+    → between ≡ before ++ map sent (letters_of (rules first.course) first.standing) → Gone step mid new between after
+    → Matches (step_after first.standing.phase step) (after_entering (rules first.course) first.standing (gone_on (rules first.course) (phases_left (rules first.course) first.standing) (entered (rules first.course) first.standing))) first new before after
+entering first mid new step before between after is letters gone =
+    let r = rules first.course in
+    let s = first.standing in
+    let inside : phases.Standing StoreState Body = entered r s in
+    let g : Gone step (standing_at first inside) new between after = subst (λ m. Gone step m new between after) is gone in (
+      answers_after step (gone_on r (phases_left r inside) inside).answer s g.0,
+      g.1,
+      g.2 ∙ ap (λ l. l ++ map sent (gone_on r (phases_left r inside) inside).letters) letters
+          ∙ append_assoc before (map sent (letters_of r s)) (map sent (gone_on r (phases_left r inside) inside).letters)
+          ∙ ap (λ l. before ++ l) (sym (map-append sent (letters_of r s) (gone_on r (phases_left r inside) inside).letters)),
+    )
+
+-- with a phase left there is one more to end
+one_left : (course : Course) (s : phases.Standing StoreState Body) → s.phase ≤ 2 → phases_left (rules course) s ≡ suc (2 - s.phase)
+one_left course s le = omega arith
+
+-- what comes of a part whose phase has ended
+pub ends : (old new : PartState) → old.standing.phase ≤ 2 → is_complete (rules old.course) old.standing ≡ true → Ended None old new → (b : Bool) → (old.standing.phase == 2) ≡ b
+    → gone_on (rules old.course) (phases_left (rules old.course) old.standing) old.standing
+    ≡ if_complete true (Ok new.standing.holds) b old.standing (moved (rules old.course) old.standing) (λ h. after_entering (rules old.course) (moved (rules old.course) old.standing h) (gone_on (rules old.course) (2 - old.standing.phase) (entered (rules old.course) (moved (rules old.course) old.standing h))))
+ends old new le full ended b at =
+    let r = rules old.course in
+    let s = old.standing in
+    ap (λ n. gone_on r n s) (one_left old.course s le) ∙ opened r (2 - s.phase) s b new.standing.holds full ended.0 at
+
+-- a phase has ended, the next is entered, and the part goes on
+pub goes_on : (old next mid new : PartState) (step : Step) (before between after : List Letter) → old.standing.phase ≤ 2 → is_complete (rules old.course) old.standing ≡ true → Ended None old next
+    → next.standing.phase ≤ 2 → mid ≡ standing_at next (entered (rules next.course) next.standing) → between ≡ before ++ map sent (letters_of (rules next.course) next.standing)
+    → Gone step mid new between after → Gone (step_after next.standing.phase step) old new before after
+goes_on old next mid new step before between after le full ended within is letters gone =
+    let r = rules old.course in
+    let s = old.standing in
+    let at : phases.Standing StoreState Body = moved r s next.standing.holds in
+    let phase : next.standing.phase ≡ s.phase + 1 = ap (λ (p : PartState). p.standing.phase) ended.1 in
+    let more : (s.phase == 2) ≡ false = grind (arith, nat_tests) in
+    let left : phases_left r at ≡ 2 - s.phase = omega arith in
+    let all = entering next mid new step before between after is letters gone in
+    let due : Matches (step_after next.standing.phase step) (after_entering r at (gone_on r (phases_left r at) (entered r at))) (standing_at old at) new before after
+    = subst (λ (n : PartState). Matches (step_after next.standing.phase step) (after_entering (rules n.course) n.standing (gone_on (rules n.course) (phases_left (rules n.course) n.standing) (entered (rules n.course) n.standing))) n new before after) ended.1 all in
+    subst (λ d. Matches (step_after next.standing.phase step) d old new before after) (sym (ends old next le full ended false more))
+    (subst (λ k. Matches (step_after next.standing.phase step) (after_entering r at (gone_on r k (entered r at))) old new before after) left due)
+
+-- the round has begun, its first phase is entered, and the part has gone on
+pub came_first : (old first mid gone : PartState) (round n : ℕ) (step : Step) (before empty between letters after : List Letter)
+    → first ≡ record { course = old.course; standing = begins_at (rules old.course) round old.standing; begun = n; spent = old.spent }
+    → mid ≡ standing_at first (entered (rules first.course) first.standing) → empty ≡ [] → between ≡ empty ++ map sent (letters_of (rules first.course) first.standing)
+    → Gone step mid gone between letters → after ≡ before ++ letters
+    → Came (step_after 0 step) (begun (rules old.course) round old.standing) n old (record { course = gone.course; standing = gone.standing; begun = gone.begun; spent = is_over (step_after 0 step) }) before after
+came_first old first mid gone round n step before empty between letters after opens is none sends went all =
+    let r = rules old.course in
+    let start : PartState = record { course = old.course; standing = begins_at r round old.standing; begun = n; spent = old.spent } in
+    let m : mid ≡ standing_at start (entered r start.standing) = is ∙ ap (λ (p : PartState). standing_at p (entered (rules p.course) p.standing)) opens in
+    let b : between ≡ [] ++ map sent (letters_of r start.standing) = sends ∙ ap (λ (p : PartState). empty ++ map sent (letters_of (rules p.course) p.standing)) opens ∙ ap (λ e. e ++ map sent (letters_of r start.standing)) none in
+    let h = entering start mid gone step [] between letters m b went in
+    (h.0, (ap (λ (p : PartState). record { course = p.course; standing = p.standing; begun = p.begun; spent = is_over (step_after 0 step) }) h.1, all ∙ ap (λ ls. before ++ ls) h.2))

@@ -1,0 +1,3 @@
+pub mod Bodies
+pub mod Going
+pub mod Walks

@@ -1,0 +1,5 @@
+use Rattle.std.proofs.Common.{◌-◌}
+use Rattle.part_core.proofs.part.Part.+go_on.Given as goal
+
+abbrev pub decreases-go_on : goal.decreases-go_on
+decreases-go_on l = 3 - l.self.now.standing.phase

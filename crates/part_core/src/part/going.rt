@@ -1,0 +1,154 @@
+// How a part goes from phase to phase.
+ghost use Rattle.std.specs.Prelude.{◌≡◌, ◌+◌, ◌-◌, ◌<◌, ◌≤◌, IfOk, OnErr, OnOk};
+ghost use Rattle.part_core.specs.Parts.{PartState, is_over, taken};
+ghost use Rattle.part_core.specs.steps.Going.{Came, Gone, standing_at, step_after};
+ghost use Rattle.part_phases.specs.Phases.{begins_at, begun, gone_on, is_complete, is_owed, phases_left, with_letter};
+ghost use Rattle.part_rules.specs.Rounds.{rules};
+
+use crate::answers::Step;
+use crate::inbox::Inbox;
+use crate::part::Part;
+use letters::Letter;
+use ma_geom::Memory;
+use part_rules::is_of_phase;
+use std::alloc::Global;
+
+/// The last phase of a round.
+const LAST_PHASE: u32 = 2;
+
+/// The answer of a part that entered a phase and then gave this one.
+fn step_after(phase: u32, step: Step) -> Step
+    ensures { result ≡ step_after phase step }
+{
+    match step {
+        Step::Waiting => Step::Moved(phase),
+        Step::Moved(later) => Step::Moved(later),
+        Step::RoundDone => Step::RoundDone,
+        Step::Over { phase, total } => Step::Over { phase, total },
+    }
+}
+
+fn is_over(step: Step) -> bool
+    ensures { result ≡ is_over step }
+{
+    matches!(step, Step::Over { .. })
+}
+
+impl Part {
+    /// Whether a letter is still owed.
+    pub(crate) fn is_owed(&self, letter: &Letter) -> bool
+        ensures { result ≡ is_owed (rules self.now.course) self.now.standing (taken letter.now) }
+    {
+        letter.round == self.round
+            && letter.target == self.me
+            && letter.sender < self.course.parts
+            && letter.sender != self.me
+            && letter.phase <= LAST_PHASE
+            && is_of_phase(letter.phase, &letter.body)
+            && ((letter.phase == self.phase && self.current.lacks(letter.sender))
+                || (letter.phase == self.phase + 1 && self.early.lacks(letter.sender)))
+    }
+
+    /// Puts a letter among those of its phase.
+    fn take_in(&mut self, letter: Letter) -> Result<(), Memory>
+        requires { letter.sender < self.old.course.parts }
+        ensures { OnOk result (self.new ≡ standing_at self.old (with_letter self.old.standing (taken letter))) }
+    {
+        if letter.phase == self.phase {
+            self.current.put_in(letter.sender, letter.body)
+        } else {
+            self.early.put_in(letter.sender, letter.body)
+        }
+    }
+
+    /// Whether the letters of the phase are all there.
+    fn is_complete(&self) -> bool
+        ensures { result ≡ is_complete (rules self.now.course) self.now.standing }
+    {
+        self.current.missing(self.course.parts, self.me) == 0
+    }
+
+    /// Goes on as far as the letters at hand allow.
+    fn go_on(&mut self, alloc: Global, out: &mut Vec<Letter>) -> Result<Step, Memory>
+        requires { self.old.standing.phase ≤ 2 }
+        ensures { IfOk result (λ step. Gone step self.old self.new out.old.items out.new.items) }
+    {
+        if !self.is_complete() {
+            return Ok(Step::Waiting);
+        }
+        let over = self.end_phase(alloc)?;
+        let phase = self.phase();
+        match over {
+            Some(total) => return Ok(Step::Over { phase, total }),
+            None => {}
+        }
+        if phase > LAST_PHASE {
+            return Ok(Step::RoundDone);
+        }
+        self.enter(alloc, out)?;
+        let step = self.go_on(alloc, out)?;
+        Ok(step_after(phase, step))
+    }
+
+    /// A part that found too many tetrahedra is spent.
+    fn close(&mut self, step: Step)
+        ensures { self.new ≡ record { course = self.old.course; standing = self.old.standing; begun = self.old.begun; spent = is_over step } }
+    {
+        self.spent = is_over(step);
+    }
+
+    /// Takes a letter that is owed, and goes on. Its letters are appended at the end, so that none is
+    /// where memory runs out.
+    pub(crate) fn go_on_with(
+        &mut self,
+        alloc: Global,
+        letter: Letter,
+        out: &mut Vec<Letter>,
+    ) -> Result<Step, Memory>
+        requires running { self.old.standing.phase ≤ 2 }
+        requires sender { letter.sender < self.old.course.parts }
+        ensures ok { IfOk result (λ step. Came step (gone_on (rules self.old.course) (phases_left (rules self.old.course) self.old.standing) (with_letter self.old.standing (taken letter))) self.old.begun self.old self.new out.old.items out.new.items) }
+        ensures err { OnErr result (out.new.items ≡ out.old.items) }
+    {
+        let mut letters = Vec::new(alloc);
+        self.take_in(letter)?;
+        let step = self.go_on(alloc, &mut letters)?;
+        out.append(&mut letters)?;
+        self.close(step);
+        Ok(step)
+    }
+
+    /// Stands in the first phase of a round, without a body.
+    fn open(&mut self, alloc: Global, round: u32)
+        requires { round ≤ self.old.course.grid }
+        ensures { self.new ≡ record { course = self.old.course; standing = begins_at (rules self.old.course) round self.old.standing; begun = round + 1; spent = self.old.spent } }
+    {
+        self.round = round;
+        self.phase = 0;
+        self.current = Inbox::new(alloc);
+        self.early = Inbox::new(alloc);
+        self.kept = None;
+        self.begun = round + 1;
+    }
+
+    /// Begins a round, and goes on. Its letters are appended at the end.
+    pub(crate) fn begin_round(
+        &mut self,
+        alloc: Global,
+        round: u32,
+        out: &mut Vec<Letter>,
+    ) -> Result<Step, Memory>
+        requires { round ≤ self.old.course.grid }
+        ensures ok { IfOk result (λ step. Came step (begun (rules self.old.course) round self.old.standing) (round + 1) self.old self.new out.old.items out.new.items) }
+        ensures err { OnErr result (out.new.items ≡ out.old.items) }
+    {
+        let mut letters = Vec::new(alloc);
+        self.open(alloc, round);
+        self.enter(alloc, &mut letters)?;
+        let gone = self.go_on(alloc, &mut letters)?;
+        let step = step_after(0, gone);
+        out.append(&mut letters)?;
+        self.close(step);
+        Ok(step)
+    }
+}

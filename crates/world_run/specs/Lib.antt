@@ -1,0 +1,7 @@
+pub mod Drawn
+pub mod Meshes
+pub mod Replay
+pub mod Told
+pub mod Union
+pub mod Views
+pub mod steps

@@ -1,0 +1,5 @@
+pub mod Beginning
+pub mod Drawing
+pub mod Handing
+pub mod Turns
+pub mod Uniting
