@@ -15,7 +15,7 @@ use Rattle.ma_cells.proofs.Permutations.{alone, apart, same, tied}
 away : (a b : Coordinates) → eq_by_cmp place_cmp a b ≡ false → eq_by_cmp place_cmp b a ≡ false
 away a b h = apart b a (λ e. false≢true (sym h ∙ subst (λ x. eq_by_cmp place_cmp a x ≡ true) (sym e) (tied a)))
 
-or_neither : (s t : Bool) → (s || t) ≡ false → (s ≡ false) × (t ≡ false)
+pub or_neither : (s t : Bool) → (s || t) ≡ false → (s ≡ false) × (t ≡ false)
 or_neither true t h = absurd (false≢true (sym h))
 or_neither false t h = (refl, h)
 

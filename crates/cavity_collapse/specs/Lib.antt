@@ -1,5 +1,6 @@
 pub mod Collapsing
 pub mod Curves
 pub mod Surfaces
+pub mod Rims
 pub mod Judging
 pub mod Steps

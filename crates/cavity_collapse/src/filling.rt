@@ -1,5 +1,5 @@
 // What a collapse leaves.
-ghost use Rattle.std.specs.Prelude.{◌≡◌, ◌∷◌, [], map};
+ghost use Rattle.std.specs.Prelude.{◌≡◌, ◌∷◌, [], None, Some, if◌then◌else◌, map};
 ghost use Rattle.std.specs.List.{flat_map};
 ghost use Rattle.ma_geom.specs.Coordinates.{place_cmp};
 ghost use Rattle.ma_geom.specs.Quality.{quality};
@@ -8,7 +8,8 @@ ghost use Rattle.ma_cells.specs.Stars.{besides, cone};
 ghost use Rattle.ma_cells.specs.Tetrahedron.{tetrahedron_of};
 ghost use Rattle.ma_cells.specs.Worst.{least, worst};
 ghost use Rattle.cavity_collapse.specs.Collapsing.{collapsed};
-ghost use Rattle.cavity_collapse.specs.Steps.{least_with, lesser, worst_with};
+ghost use Rattle.cavity_collapse.specs.Judging.{quality_is_kept};
+ghost use Rattle.cavity_collapse.specs.Steps.{each_passes, least_with, lesser, worst_with};
 
 use crate::stars::face_across;
 use ma_cells::Tet;
@@ -102,4 +103,47 @@ pub(crate) fn new_worst(star: &[Tet], a: Place, v: Place) -> u32
     ensures { result ≡ worst (collapsed a v star.now) }
 {
     worst_if_any(star, a, v).unwrap_or(0)
+}
+
+/// Whether a least quality that was `old` doesn't fall, or not below a sixty-fourth.
+pub(crate) fn quality_is_kept(old: u32, new: u32) -> bool
+    ensures { result ≡ quality_is_kept old new }
+{
+    old <= new || 1 << 24 <= new
+}
+
+/// Whether there is no quality yet, or it is kept.
+fn is_kept_so_far(old: u32, worst: Option<u32>) -> bool
+    ensures { result ≡ each_passes (quality_is_kept old) worst }
+{
+    match worst {
+        Some(worst) => quality_is_kept(old, worst),
+        None => true,
+    }
+}
+
+fn if_kept(old: u32, new: u32) -> Option<u32>
+    ensures { result ≡ (if quality_is_kept old new then Some new else None) }
+{
+    if quality_is_kept(old, new) {
+        Some(new)
+    } else {
+        None
+    }
+}
+
+/// The least quality of the tetrahedra that fill the star of `a`, if it is kept. It is given up at
+/// the first of them whose quality isn't.
+#[tactic(auto, unfolding(ma_cells::specs::Worst::worst))]
+pub(crate) fn kept_worst(star: &[Tet], a: Place, v: Place, old: u32) -> Option<u32>
+    ensures { result ≡ (if quality_is_kept old (worst (collapsed a v star.now)) then Some (worst (collapsed a v star.now)) else None) }
+{
+    let mut worst = None;
+    for tet in star {
+        worst = worst_with(worst, moved_tet(tet, a, v));
+        if !is_kept_so_far(old, worst) {
+            return None;
+        }
+    }
+    if_kept(old, worst.unwrap_or(0))
 }

@@ -1,14 +1,17 @@
 // Whether a collapse is legal.
-ghost use Rattle.std.specs.Prelude.{◌≡◌, ◌∷◌, [], Ok};
+ghost use Rattle.std.specs.Prelude.{◌≡◌, ◌∷◌, [], ◌&&◌, Ok};
 ghost use Rattle.std.specs.List.{list_all};
+ghost use Rattle.ma_geom.specs.Lines.{collinear};
 ghost use Rattle.ma_cells.specs.Worst.{worst};
 ghost use Rattle.cavity_rank.specs.Verdicts.{first_failing, verdict_of};
 ghost use Rattle.cavity_collapse.specs.Curves.{curves_are_kept, is_free_point};
 ghost use Rattle.cavity_collapse.specs.Judging.{edges_stay_short, faces_are_seen, is_short_edge, judged_collapse, legal_quality, quality_is_kept};
+ghost use Rattle.cavity_collapse.specs.Rims.{rims_of};
 ghost use Rattle.cavity_collapse.specs.Surfaces.{planes_are_kept, surfaces_are_kept, turns_are_kept};
 
 use crate::curves::{curves_are_kept, is_free_point};
-use crate::filling::{new_worst, worst};
+use crate::filling::{kept_worst, new_worst, quality_is_kept, worst};
+use crate::rims::all_lead_to;
 use crate::stars::{edges_stay_short, faces_are_seen, is_short_edge};
 use crate::surfaces::{planes_are_kept, surfaces_are_kept, turns_are_kept};
 use cavity_rank::Verdict;
@@ -44,7 +47,7 @@ fn failing(star: &[Tet], marks: &[Mark], a: Place, v: Place, field: &SizeField) 
 fn by_quality(old: u32, new: u32) -> Verdict
     ensures { result ≡ verdict_of new (first_failing 9 (quality_is_kept old new ∷ [])) }
 {
-    if old <= new || 1 << 24 <= new {
+    if quality_is_kept(old, new) {
         Verdict::Legal { worst: new }
     } else {
         Verdict::Illegal(9)
@@ -94,18 +97,61 @@ pub fn judge(
     }
 }
 
-/// Whether all tests pass but that of quality, those that cost less first.
-fn may_go(star: &[Tet], marks: &[Mark], a: Place, v: Place, field: &SizeField) -> bool
-    ensures { result ≡ list_all (λ test. test) (is_short_edge field.now star.now a v ∷ is_free_point marks.now a ∷ curves_are_kept marks.now a v ∷ planes_are_kept marks.now a v ∷ surfaces_are_kept marks.now a v ∷ turns_are_kept marks.now a v ∷ faces_are_seen star.now a v ∷ edges_stay_short field.now star.now a v ∷ []) }
+/// Whether the tests pass that cost little and refuse most. Of the faces a third is refused where
+/// all others pass, so they come before what is asked of surfaces and of sizes.
+fn may_move(star: &[Tet], marks: &[Mark], a: Place, v: Place, field: &SizeField) -> bool
+    ensures { result ≡ list_all (λ test. test) (is_short_edge field.now star.now a v ∷ is_free_point marks.now a ∷ planes_are_kept marks.now a v ∷ faces_are_seen star.now a v ∷ []) }
 {
     is_short_edge(field, star, a, v)
         && is_free_point(marks, a)
         && planes_are_kept(marks, a, v)
+        && faces_are_seen(star, a, v)
+}
+
+/// Whether the tests pass that cost more, with that of surfaces.
+fn may_stay(
+    star: &[Tet],
+    marks: &[Mark],
+    surfaces: bool,
+    a: Place,
+    v: Place,
+    field: &SizeField,
+) -> bool
+    ensures { result ≡ list_all (λ test. test) (curves_are_kept marks.now a v ∷ surfaces ∷ turns_are_kept marks.now a v ∷ edges_stay_short field.now star.now a v ∷ []) }
+{
+    surfaces
         && curves_are_kept(marks, a, v)
-        && surfaces_are_kept(marks, a, v)
         && turns_are_kept(marks, a, v)
         && edges_stay_short(field, star, a, v)
-        && faces_are_seen(star, a, v)
+}
+
+/// Whether all tests pass but that of quality.
+fn may_go(star: &[Tet], marks: &[Mark], a: Place, v: Place, field: &SizeField) -> bool
+    ensures { result ≡ (list_all (λ test. test) (is_short_edge field.now star.now a v ∷ is_free_point marks.now a ∷ planes_are_kept marks.now a v ∷ faces_are_seen star.now a v ∷ []) && list_all (λ test. test) (curves_are_kept marks.now a v ∷ surfaces_are_kept marks.now a v ∷ turns_are_kept marks.now a v ∷ edges_stay_short field.now star.now a v ∷ [])) }
+{
+    if !may_move(star, marks, a, v, field) {
+        return false;
+    }
+    let surfaces = surfaces_are_kept(marks, a, v);
+    may_stay(star, marks, surfaces, a, v, field)
+}
+
+/// The same by the rims of surfaces at `a`.
+fn may_go_beside(
+    star: &[Tet],
+    marks: &[Mark],
+    rims: &[Place],
+    a: Place,
+    v: Place,
+    field: &SizeField,
+) -> bool
+    ensures { result ≡ (list_all (λ test. test) (is_short_edge field.now star.now a v ∷ is_free_point marks.now a ∷ planes_are_kept marks.now a v ∷ faces_are_seen star.now a v ∷ []) && list_all (λ test. test) (curves_are_kept marks.now a v ∷ list_all (λ x. collinear a x v) rims.now ∷ turns_are_kept marks.now a v ∷ edges_stay_short field.now star.now a v ∷ [])) }
+{
+    if !may_move(star, marks, a, v, field) {
+        return false;
+    }
+    let surfaces = all_lead_to(rims, a, v);
+    may_stay(star, marks, surfaces, a, v, field)
 }
 
 /// The least quality of the new tetrahedra, where a collapse of `a` to `v` is legal, with the least
@@ -121,11 +167,30 @@ pub fn legal_with(
     requires { old ≡ worst star.now }
     ensures { result ≡ legal_quality (judged_collapse field.now star.now marks.now a v) }
 {
-    if !may_go(star, marks, a, v, field) {
-        return None;
+    if may_go(star, marks, a, v, field) {
+        kept_worst(star, a, v, old)
+    } else {
+        None
     }
-    match by_quality(old, new_worst(star, a, v)) {
-        Verdict::Legal { worst } => Some(worst),
-        Verdict::Illegal(_) => None,
+}
+
+/// The same, with the rims of marked surfaces at `a`, which are the same for each `v`.
+pub fn legal_beside(
+    star: &[Tet],
+    marks: &[Mark],
+    rims: &[Place],
+    a: Place,
+    v: Place,
+    field: &SizeField,
+    old: u32,
+) -> Option<u32>
+    requires rims { rims.now ≡ rims_of marks.now a }
+    requires old { old ≡ worst star.now }
+    ensures { result ≡ legal_quality (judged_collapse field.now star.now marks.now a v) }
+{
+    if may_go_beside(star, marks, rims, a, v, field) {
+        kept_worst(star, a, v, old)
+    } else {
+        None
     }
 }

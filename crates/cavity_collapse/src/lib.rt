@@ -6,12 +6,14 @@ mod filling;
 mod judging;
 mod places;
 mod results;
+mod rims;
 mod stars;
 mod surfaces;
 
 pub use filling::worst;
-pub use judging::{judge, judge_with, legal_with};
+pub use judging::{judge, judge_with, legal_beside, legal_with};
 pub use results::result;
+pub use rims::find_rims;
 
 #[cfg(test)]
 mod tests;

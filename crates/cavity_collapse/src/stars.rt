@@ -7,14 +7,14 @@ ghost use Rattle.ma_cells.specs.Ascending.{are_ascending, has};
 ghost use Rattle.ma_cells.specs.Faces.{holds_all};
 ghost use Rattle.ma_cells.specs.Stars.{besides};
 ghost use Rattle.ma_cells.specs.Tetrahedron.{are_corners};
-ghost use Rattle.size_marks.specs.Field.{is_long};
+ghost use Rattle.size_marks.specs.Field.{is_long, size_at};
 ghost use Rattle.cavity_collapse.specs.Collapsing.{is_same};
 ghost use Rattle.cavity_collapse.specs.Judging.{edges_stay_short, faces_are_seen, is_short_edge};
 
 use crate::places::{has, is_same};
 use ma_cells::Tet;
 use ma_geom::{Place, side};
-use size_marks::SizeField;
+use size_marks::{SizeField, SizedPlace};
 
 fn is_edge(star: &[Tet], a: Place, v: Place) -> bool
     ensures { result ≡ list_any (λ tet. holds_all tet.corners (a ∷ v ∷ [])) star.now }
@@ -81,24 +81,42 @@ pub(crate) fn faces_are_seen(star: &[Tet], a: Place, v: Place) -> bool
     star.iter().all(|tet| face_is_seen(tet, a, v))
 }
 
-fn stays_short(field: &SizeField, corners: [Place; 4], a: Place, v: Place) -> bool
+fn is_long_from(field: &SizeField, v: Place, sized: SizedPlace, x: Place) -> bool
+    requires { sized ≡ record { place = v; size = size_at field.now v } }
+    ensures { result ≡ is_long field.now v x }
+{
+    field.is_long_between(sized, field.sized(x))
+}
+
+fn stays_short(
+    field: &SizeField,
+    corners: [Place; 4],
+    a: Place,
+    v: Place,
+    sized: SizedPlace,
+) -> bool
+    requires { sized ≡ record { place = v; size = size_at field.now v } }
     ensures { result ≡ list_all (λ x. is_same x a || not (is_long field.now v x)) corners }
 {
     corners
         .iter()
-        .all(|x| is_same(*x, a) || !field.is_long(v, *x))
+        .all(|x| is_same(*x, a) || !is_long_from(field, v, sized, *x))
 }
 
-fn edges_stay_short_of(field: &SizeField, tet: &Tet, a: Place, v: Place) -> bool
+fn edges_stay_short_of(field: &SizeField, tet: &Tet, a: Place, v: Place, sized: SizedPlace) -> bool
+    requires { sized ≡ record { place = v; size = size_at field.now v } }
     ensures { result ≡ (has place_cmp v tet.now.corners || list_all (λ x. not (is_long field.now v x)) (besides (a ∷ []) tet.now.corners)) }
 {
     let corners = tet.corners();
-    has(&corners, v) || stays_short(field, corners, a, v)
+    has(&corners, v) || stays_short(field, corners, a, v, sized)
 }
 
-/// Whether no edge is long from `v` to another corner of a tetrahedron that lacks `v`.
+/// Whether no edge is long from `v` to another corner of a tetrahedron that lacks `v`. The size at
+/// `v` is looked up once.
 pub(crate) fn edges_stay_short(field: &SizeField, star: &[Tet], a: Place, v: Place) -> bool
     ensures { result ≡ edges_stay_short field.now star.now a v }
 {
-    star.iter().all(|tet| edges_stay_short_of(field, tet, a, v))
+    let sized = field.sized(v);
+    star.iter()
+        .all(|tet| edges_stay_short_of(field, tet, a, v, sized))
 }

@@ -49,7 +49,7 @@ fn corners_across(a: Place, corners: [Place; 3]) -> Option<(Place, Place)>
     }
 }
 
-fn across(a: Place, cell: Cell) -> Option<(Place, Place)>
+pub(crate) fn across(a: Place, cell: Cell) -> Option<(Place, Place)>
     ensures { result ≡ across a cell }
 {
     match cell {
@@ -127,7 +127,7 @@ fn lies_beyond(marks: &[Mark], a: Place, x: Place, y: Place, m: &Mark, n: &Mark)
     }
 }
 
-fn some_lie_beyond(marks: &[Mark], a: Place, x: Place, y: Place, m: &Mark) -> bool
+pub(crate) fn some_lie_beyond(marks: &[Mark], a: Place, x: Place, y: Place, m: &Mark) -> bool
     ensures { result ≡ list_any (lies_beyond marks.now a x y m.now) marks.now }
 {
     marks.iter().any(|n| lies_beyond(marks, a, x, y, m, n))

@@ -18,7 +18,7 @@ use Rattle.cavity_collapse.specs.Judging.{legal_quality}
 use Rattle.cavity_collapse.proofs.Listed.{all_listed}
 use Rattle.cavity_collapse.proofs.Worsts.{least_set, qualities}
 use Rattle.cavity_swap.specs.Judging.{has_one_region, is_bad, is_bare, judged_swap, outer_faces_are_seen}
-use Rattle.cavity_swap.specs.Outer.{may_be_taken, outer_of, quality_from, with_corners}
+use Rattle.cavity_swap.specs.Outer.{may_be_taken, outer_of, quality_from, sees, with_corners}
 use Rattle.cavity_swap.specs.Steps.{are_above, is_seen_from, outer_at, passes_from}
 use Rattle.cavity_swap.specs.Swapping.{had_by, outer_faces, swapped}
 use Rattle.cavity_swap.specs.declared.outer.OuterFace.{OuterFace}
@@ -76,6 +76,9 @@ one_below old (n ∷ m ∷ ns) e =
       | true ↦ λ t r. let rest : nat_lt old (least (m ∷ ns)) ≡ false = one_below old (m ∷ ns) r in grind (arith, nat_tests)
       | false ↦ λ t r. grind (arith, nat_tests)
     ] refl e
+
+pub sees_by_steps : (outer : List OuterFace) (v : Coordinates) → list_all (λ one. is_seen_from v one.corners one.face) outer ≡ sees outer v
+sees_by_steps outer v = λ i. list_all (λ (one : OuterFace). has place_cmp v one.face || beside_all one.face v one.corners i) outer
 
 module _ (cavity : List Tetrahedron) (v : Coordinates) where
   pub all_seen : list_all (λ one. is_seen_from v one.corners one.face) (outer_of cavity) ≡ outer_faces_are_seen cavity v
@@ -155,3 +158,17 @@ legal_by_both cavity marks at v =
     by w true true true false more = refl
     by w true true true true false = refl
     by w true true true true true = refl
+
+-- ---- a place that doesn't see each outer face makes no swap
+pub sees_outer : (cavity : List Tetrahedron) (v : Coordinates) → sees (outer_of cavity) v ≡ outer_faces_are_seen cavity v
+sees_outer cavity v = sym (sees_by_steps (outer_of cavity) v) ∙ all_seen cavity v
+
+pub unseen : (cavity : List Tetrahedron) (marks : List CellMark) (at : List Coordinates) (v : Coordinates) → sees (outer_of cavity) v ≡ false
+    → ◌≡◌ {A = Option ℕ} None (legal_quality (judged_swap cavity marks at v))
+unseen cavity marks at v e =
+    let off : quality_from cavity v ≡ None = ap (λ b. cond (b && nat_lt (worst cavity) (worst (swapped v cavity))) (Some (worst (swapped v cavity))) None) (sym (sees_outer cavity v) ∙ e) in
+    sym (legal_by_both cavity marks at v ∙ ap (λ (o : Option ℕ). cond (may_be_taken cavity marks at) o None) off ∙ both_none (may_be_taken cavity marks at))
+  where
+    both_none : (b : Bool) → ◌≡◌ {A = Option ℕ} (cond b None None) None
+    both_none true = refl
+    both_none false = refl

@@ -12,7 +12,7 @@ mod walks;
 
 pub use filling::result;
 pub use judging::{judge_pair, judge_ring, judge_with};
-pub use outer::{OuterFace, find_outer, may_be_taken, quality_from};
+pub use outer::{OuterFace, find_outer, may_be_taken, quality_from, sees};
 pub use rings::{Ring, ring_around, ring_of};
 
 #[cfg(test)]

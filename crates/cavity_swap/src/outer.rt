@@ -5,7 +5,7 @@ ghost use Rattle.ma_geom.specs.Quality.{quality};
 ghost use Rattle.ma_cells.specs.Tetrahedron.{tetrahedron_of};
 ghost use Rattle.ma_cells.specs.Worst.{worst};
 ghost use Rattle.cavity_collapse.specs.Steps.{each_passes};
-ghost use Rattle.cavity_swap.specs.Outer.{may_be_taken, outer_of, quality_from, with_corners};
+ghost use Rattle.cavity_swap.specs.Outer.{may_be_taken, outer_of, quality_from, sees, with_corners};
 ghost use Rattle.cavity_swap.specs.Steps.{are_above, is_seen_from, outer_at, passes_from};
 ghost use Rattle.cavity_swap.specs.Swapping.{outer_faces};
 
@@ -83,6 +83,15 @@ fn are_seen_from(v: Place, outer: &[OuterFace]) -> bool
     outer
         .iter()
         .all(|one| is_seen_from(v, one.corners, one.face))
+}
+
+/// Whether the cavity with these outer faces may be filled from `v` with no tetrahedron turned over:
+/// `v` lies on the side of its tetrahedron of each face that lacks it. Of the tests of a swap this
+/// refuses most, and needs no quality.
+pub fn sees(outer: &[OuterFace], v: Place) -> bool
+    ensures { result ≡ sees outer.now v }
+{
+    are_seen_from(v, outer)
 }
 
 /// Whether there is no tetrahedron, or one of more than this quality.

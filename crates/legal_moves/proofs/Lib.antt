@@ -3,4 +3,5 @@ pub mod BySpot
 pub mod ByVertex
 pub mod Closed
 pub mod Pushing
+mod Near
 mod Taken

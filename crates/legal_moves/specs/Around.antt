@@ -1,15 +1,17 @@
 -- The legal operations as the code finds them, by the places that they take away. No public contract names these.
-use Rattle.std.specs.Prelude.{ℕ, Bool, false, if◌then◌else◌, List, [], ◌∷◌, filter}
+use Rattle.std.specs.Prelude.{◌≡◌, ⊤, ℕ, Bool, false, if◌then◌else◌, List, [], ◌∷◌, filter, Option, Some, None}
 use Rattle.std.specs.declared.cmp.Ordering.{Ordering}
 use Rattle.std.specs.Cmp.Lexicographic.{slice_cmp}
 use Rattle.std.specs.List.{flat_map}
+use Rattle.std.specs.List.Sorted.{IsStrictlySortedBy}
+use Rattle.std.specs.Ordering.{eq_by_cmp}
 use Rattle.ma_geom.specs.Coordinates.{Coordinates, place_cmp}
 use Rattle.ma_geom.specs.Quality.{quality}
 use Rattle.ma_cells.specs.Ascending.{ascending_of}
 use Rattle.ma_cells.specs.Cells.{CellMark}
 use Rattle.ma_cells.specs.Faces.{choices}
 use Rattle.ma_cells.specs.Stars.{besides, marks_at, star_of}
-use Rattle.ma_cells.specs.Tetrahedron.{Tetrahedron}
+use Rattle.ma_cells.specs.Tetrahedron.{Tetrahedron, tet_cmp}
 use Rattle.ma_cells.specs.declared.batch.Batch.{Batch}
 use Rattle.size_marks.specs.Field.{Field}
 use Rattle.cavity_rank.specs.Operations.{Operation}
@@ -59,3 +61,13 @@ swaps_from star at v = operations_from at v (quality_from star v)
 
 abbrev pub swaps_around : Batch → (at : List Coordinates) → List Operation
 swaps_around mesh at = if is_swappable at (star_of at mesh.tets) then flat_map (swaps_at (star_of at mesh.tets) (marks_at at mesh.marks) at) (others_of at (star_of at mesh.tets)) else []
+
+-- whether these are the tetrahedra, in ascending order, and the marks at a vertex of a mesh, if there is a vertex
+abbrev pub AreAt : Batch → Option Coordinates → List Tetrahedron → List CellMark → Type 0
+AreAt mesh (Some a) tets marks = (tets ≡ star_of (a ∷ []) mesh.tets) × IsStrictlySortedBy tet_cmp tets × (marks ≡ marks_at (a ∷ []) mesh.marks)
+AreAt mesh None tets marks = ⊤
+
+-- whether a vertex is that one, if there is a vertex
+abbrev pub is_at : Option Coordinates → Coordinates → Bool
+is_at (Some p) a = eq_by_cmp place_cmp p a
+is_at None a = false

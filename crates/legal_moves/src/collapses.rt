@@ -3,12 +3,13 @@ ghost use Rattle.std.specs.Prelude.{◌≡◌, ◌++◌, ◌∷◌, [], IfOk, On
 ghost use Rattle.std.specs.List.{flat_map, list_any};
 ghost use Rattle.size_marks.specs.Field.{is_short};
 ghost use Rattle.cavity_rank.specs.declared.verdict.Kind.TheVariants.{Collapse};
+ghost use Rattle.cavity_collapse.specs.Rims.{rims_of};
 ghost use Rattle.corner_tables.specs.Tables.{marks_table, tets_table};
 ghost use Rattle.legal_moves.specs.Around.{legal_around, vertices_of};
 ghost use Rattle.pass_rules.specs.Moves.{legal_operations, operations_from, quality_at};
 
 use crate::surroundings::{Surroundings, find_others, push_operation};
-use cavity_collapse::{legal_with, worst};
+use cavity_collapse::{find_rims, legal_beside, worst};
 use cavity_rank::Operation;
 use corner_tables::CornerTable;
 use ma_cells::{Ascending, Batch, Mark, Tet};
@@ -27,20 +28,23 @@ fn vertices(alloc: Global, tets: &[Tet]) -> Result<Ascending<Place>, Memory>
     Ok(Ascending::gather(places))
 }
 
-/// Appends the legal collapses of `a` to these places.
+/// Appends the legal collapses of `a` to these places, with the rims of marked surfaces at `a`.
 fn push_legal(
     ops: &mut Vec<Operation>,
     star: &[Tet],
     marks: &[Mark],
+    rims: &[Place],
     a: Place,
     ends: &[Place],
     field: &SizeField,
 ) -> Result<(), Memory>
+    requires { rims.now ≡ rims_of marks.now a }
     ensures { OnOk result (ops.new.items ≡ ops.old.items ++ flat_map (λ v. operations_from (a ∷ []) v (quality_at field.now star.now marks.now (a ∷ []) v)) ends.now) }
 {
     let old = worst(star);
     for v in ends {
-        push_operation(ops, &[a], *v, legal_with(star, marks, a, *v, field, old))?;
+        let quality = legal_beside(star, marks, rims, a, *v, field, old);
+        push_operation(ops, &[a], *v, quality)?;
     }
     Ok(())
 }
@@ -72,10 +76,12 @@ fn push_around(
         return Ok(());
     }
     by_marks.marks_at(mesh.marks.as_slice(), &[a], &mut around.marks)?;
+    find_rims(&mut around.rims, around.marks.as_slice(), a)?;
     push_legal(
         ops,
         around.star.as_slice(),
         around.marks.as_slice(),
+        around.rims.as_slice(),
         a,
         around.others.as_slice(),
         field,

@@ -1,6 +1,6 @@
 // The legal swaps of a mesh.
 ghost use Rattle.std.specs.Prelude.{◌≡◌, ◌++◌, ◌∷◌, [], true, IfOk, OnOk, not};
-ghost use Rattle.std.specs.List.{flat_map, list_all};
+ghost use Rattle.std.specs.List.{flat_map, list_all, list_any};
 ghost use Rattle.std.specs.List.Sorted.{IsStrictlySortedBy};
 ghost use Rattle.std.specs.Ordering.{eq_by_cmp};
 ghost use Rattle.ma_geom.specs.Coordinates.{place_cmp};
@@ -10,17 +10,17 @@ ghost use Rattle.ma_cells.specs.Worst.{worst};
 ghost use Rattle.size_marks.specs.Field.{Field};
 ghost use Rattle.cavity_rank.specs.Operations.{is_spot};
 ghost use Rattle.cavity_rank.specs.declared.verdict.Kind.TheVariants.{Swap};
-ghost use Rattle.cavity_swap.specs.Outer.{outer_of};
+ghost use Rattle.cavity_swap.specs.Outer.{outer_of, sees};
 ghost use Rattle.cavity_swap.specs.Rings.{edges_across};
 ghost use Rattle.corner_tables.specs.Tables.{marks_table, tets_table};
-ghost use Rattle.legal_moves.specs.Around.{is_swappable, swaps_around, swaps_at, swaps_from};
+ghost use Rattle.legal_moves.specs.Around.{AreAt, is_swappable, swaps_around, swaps_at, swaps_from};
 ghost use Rattle.pass_rules.specs.Moves.{are_a_pair, legal_operations, make_a_ring};
 
 use crate::spots::{bad_among, edges_of, faces_of};
-use crate::surroundings::{Surroundings, find_others, push_operation};
+use crate::surroundings::{Surroundings, find_others, look_around, push_operation};
 use cavity_collapse::worst;
 use cavity_rank::Operation;
-use cavity_swap::{OuterFace, find_outer, may_be_taken, quality_from, ring_around};
+use cavity_swap::{OuterFace, find_outer, may_be_taken, quality_from, ring_around, sees};
 use corner_tables::CornerTable;
 use ma_cells::{Ascending, Batch, Mark, Tet};
 use ma_geom::{Memory, Place};
@@ -86,7 +86,15 @@ fn push_from(
     Ok(())
 }
 
-/// Appends the legal swaps of an edge or a face to these places.
+/// Whether the cavity with these outer faces may be filled from one of these places.
+fn some_sees(outer: &[OuterFace], apexes: &[Place]) -> bool
+    ensures { result ≡ list_any (sees outer.now) apexes.now }
+{
+    apexes.iter().any(|v| sees(outer, *v))
+}
+
+/// Appends the legal swaps of an edge or a face to these places. What asks for no quality comes
+/// first, and refuses most.
 fn push_legal(
     ops: &mut Vec<Operation>,
     outer: &mut Vec<OuterFace>,
@@ -98,11 +106,14 @@ fn push_legal(
     requires { is_spot at.now ≡ true }
     ensures { OnOk result (ops.new.items ≡ ops.old.items ++ flat_map (swaps_at star.now marks.now at.now) apexes.now) }
 {
+    find_outer(outer, star)?;
+    if !some_sees(outer.as_slice(), apexes) {
+        return Ok(());
+    }
     let old = worst(star);
     if !may_be_taken(star, marks, at, old) {
         return Ok(());
     }
-    find_outer(outer, star)?;
     push_from(ops, star, outer.as_slice(), at, apexes, old)
 }
 
@@ -118,13 +129,14 @@ fn push_around(
     requires tets { by_tets.now ≡ tets_table mesh.now.tets }
     requires marks { by_marks.now ≡ marks_table mesh.now.marks }
     requires spot { is_spot at.now ≡ true }
-    ensures { OnOk result (ops.new.items ≡ ops.old.items ++ swaps_around mesh.now at.now) }
+    requires near { AreAt mesh.now around.old.first around.old.tets_at_first.items around.old.marks_at_first.items }
+    ensures near { OnOk result (AreAt mesh.now around.new.first around.new.tets_at_first.items around.new.marks_at_first.items) }
+    ensures ops { OnOk result (ops.new.items ≡ ops.old.items ++ swaps_around mesh.now at.now) }
 {
-    by_tets.star(mesh.tets.as_slice(), at, &mut around.star)?;
+    look_around(around, mesh, by_tets, by_marks, at)?;
     if !is_swappable(at, around.star.as_slice()) {
         return Ok(());
     }
-    by_marks.marks_at(mesh.marks.as_slice(), at, &mut around.marks)?;
     find_others(&mut around.others, around.star.as_slice(), at)?;
     push_legal(
         ops,
@@ -147,7 +159,9 @@ fn push_at_edge(
     requires tets { by_tets.now ≡ tets_table mesh.now.tets }
     requires marks { by_marks.now ≡ marks_table mesh.now.marks }
     requires ends { are_ascending place_cmp ends ≡ true }
-    ensures { OnOk result (ops.new.items ≡ ops.old.items ++ swaps_around mesh.now ends) }
+    requires near { AreAt mesh.now around.old.first around.old.tets_at_first.items around.old.marks_at_first.items }
+    ensures near { OnOk result (AreAt mesh.now around.new.first around.new.tets_at_first.items around.new.marks_at_first.items) }
+    ensures ops { OnOk result (ops.new.items ≡ ops.old.items ++ swaps_around mesh.now ends) }
 {
     push_around(ops, around, mesh, by_tets, by_marks, &ends)
 }
@@ -163,7 +177,9 @@ fn push_at_face(
     requires tets { by_tets.now ≡ tets_table mesh.now.tets }
     requires marks { by_marks.now ≡ marks_table mesh.now.marks }
     requires corners { are_ascending place_cmp corners ≡ true }
-    ensures { OnOk result (ops.new.items ≡ ops.old.items ++ swaps_around mesh.now corners) }
+    requires near { AreAt mesh.now around.old.first around.old.tets_at_first.items around.old.marks_at_first.items }
+    ensures near { OnOk result (AreAt mesh.now around.new.first around.new.tets_at_first.items around.new.marks_at_first.items) }
+    ensures ops { OnOk result (ops.new.items ≡ ops.old.items ++ swaps_around mesh.now corners) }
 {
     push_around(ops, around, mesh, by_tets, by_marks, &corners)
 }
@@ -180,7 +196,9 @@ fn push_edge_swaps(
     requires tets { by_tets.now ≡ tets_table mesh.now.tets }
     requires marks { by_marks.now ≡ marks_table mesh.now.marks }
     requires rise { list_all (are_ascending place_cmp) edges.now ≡ true }
-    ensures { OnOk result (ops.new.items ≡ ops.old.items ++ flat_map (swaps_around mesh.now) edges.now) }
+    requires near { AreAt mesh.now around.old.first around.old.tets_at_first.items around.old.marks_at_first.items }
+    ensures near { OnOk result (AreAt mesh.now around.new.first around.new.tets_at_first.items around.new.marks_at_first.items) }
+    ensures ops { OnOk result (ops.new.items ≡ ops.old.items ++ flat_map (swaps_around mesh.now) edges.now) }
 {
     for ends in edges {
         push_at_edge(ops, around, mesh, by_tets, by_marks, *ends)?;
@@ -200,7 +218,9 @@ fn push_face_swaps(
     requires tets { by_tets.now ≡ tets_table mesh.now.tets }
     requires marks { by_marks.now ≡ marks_table mesh.now.marks }
     requires rise { list_all (are_ascending place_cmp) faces.now ≡ true }
-    ensures { OnOk result (ops.new.items ≡ ops.old.items ++ flat_map (swaps_around mesh.now) faces.now) }
+    requires near { AreAt mesh.now around.old.first around.old.tets_at_first.items around.old.marks_at_first.items }
+    ensures near { OnOk result (AreAt mesh.now around.new.first around.new.tets_at_first.items around.new.marks_at_first.items) }
+    ensures ops { OnOk result (ops.new.items ≡ ops.old.items ++ flat_map (swaps_around mesh.now) faces.now) }
 {
     for corners in faces {
         push_at_face(ops, around, mesh, by_tets, by_marks, *corners)?;
