@@ -5,7 +5,7 @@ set -eu
 awk -v g=16 -f "$here/bench/classified.awk" >cube.msh
 awk -v g=16 -v h=32 -f "$here/bench/classified.awk" >twice.msh
 for mesh in cube.msh twice.msh; do
-    echo "$mesh, coarsened: $(measure_with --uniform "$mesh" 200 2 2 2)"
-    echo "$mesh, refined: $(measure_with --uniform "$mesh" 48 2 1 1)"
-    echo "$mesh, no round: $(measure_with --uniform "$mesh" 200 0 0 0)"
+    echo "$mesh, coarsened: $(measure "$mesh" 200 2 2 2)"
+    echo "$mesh, refined: $(measure "$mesh" 48 2 1 1)"
+    echo "$mesh, no round: $(measure "$mesh" 200 0 0 0)"
 done

@@ -1,7 +1,7 @@
 -- The mesh of an accepted job is sound and on its grid, and its rounds keep its geometry; so does the mesh whose text a run that is done has stored.
-use Rattle.std.proofs.Common.{◌≡◌, ℕ, ◌+◌, ◌-◌, ◌≤◌, Bool, true, false, cond, List, [], ◌∷◌, Some, None, refl, sym, subst, arith}
+use Rattle.std.proofs.Common.{◌≡◌, ℕ, ◌+◌, ◌-◌, ◌≤◌, Bool, true, false, cond, List, length, Some, None, refl, sym, ap, ◌∙◌, subst, arith}
 use Rattle.std.specs.Prelude.{IfSome, Option, Result, Ok, Err, nat_le}
-use Rattle.std.specs.FinMap.{get, insert}
+use Rattle.std.specs.FinMap.{get}
 use Rattle.std.specs.List.{list_all}
 use Rattle.std.proofs.lemmas.Bool.Decides.{nat_tests}
 use Rattle.ma_cells.specs.Meshes.{MarkedMesh}
@@ -21,28 +21,30 @@ use Rattle.ma_cells.proofs.Permutations.{listed_once-permutes}
 use Rattle.ma_cells.proofs.Passing.{all_pass, test_all}
 use Rattle.mesh_laws.specs.Adapted.{IsSoundMesh}
 use Rattle.one_mesh.proofs.Rounds.{rounds_adapt, rounds_halve_the_grid}
-use Rattle.size_marks.specs.Field.{Field}
 use Rattle.one_mesh.specs.Adaptation.{Plan}
-use Rattle.msh_read.specs.Trying.{◌>>=◌}
 use Rattle.mesh_check.proofs.Numbered.{then_ok}
-use Rattle.meshadapt.specs.Acts.{PutLine, Output, acts, final, final_text, outputs}
-use Rattle.meshadapt.specs.Geometry.{GeometryIsKept, RoundsKeepGeometry, StoresKept}
-use Rattle.meshadapt.specs.Outcome.{Leaves, Seen, Stores}
-use Rattle.meshadapt.specs.Printed.{done_line, mesh_name}
-use Rattle.meshadapt.specs.Verdict.{AcceptedMesh, Inputs, accepted_in, accepted_with, field_in, inputs_with, or_unaccepted, plan_of, raw_in_file, verdict, within_grid}
-use Rattle.meshadapt.specs.Words.{Job}
-use Rattle.meshadapt.proofs.Ending.{one_stored}
-use Rattle.meshadapt.specs.declared.status.Refusal.{Refusal}
+use Rattle.carrier.specs.Schedule.{Picks}
+use Rattle.mesh_check.specs.Accepted.{most_accepted_tets}
+use Rattle.std.proofs.lemmas.Option.{none-some, same_Some}
+use Rattle.world_run.proofs.Labelling.{no_more}
+use Rattle.meshadapt.specs.Acts.{Ending, Output, final, whole}
+use Rattle.meshadapt.specs.declared.status.FileKind.TheVariants.{ScheduleFile}
+use Rattle.meshadapt.specs.Geometry.{GeometryIsKept, KeepsGeometry, RoundsKeepGeometry, StoresKept}
+use Rattle.meshadapt.specs.Outcome.{Leaves, LettersArrive, MayEnd, Seen, Stores}
+use Rattle.meshadapt.specs.Verdict.{AcceptedMesh, Handout, Inputs, accepted_in, accepted_in_file, accepted_with, bytes_in, field_in, handout_for, inputs_with, labels_for, or_unaccepted, plan_of, raw_in_file, schedule_in, verdict, within_grid}
+use Rattle.meshadapt.specs.Words.{Division, Job}
+use Rattle.meshadapt.proofs.Acting.{all-outputs, all_outputs}
+use Rattle.meshadapt.proofs.FetchedFiles.{accepted_is_runnable}
 use Rattle.meshadapt.specs.declared.status.Refusal.TheVariants.{Rounds}
 use Rattle.meshadapt.specs.declared.status.Status.{Status}
-use Rattle.meshadapt.specs.declared.status.Status.TheVariants.{Done, Usage, ReadFault, WriteFault, Refused, TooMany, Memory}
+use Rattle.meshadapt.specs.declared.status.Status.TheVariants.{Done, Usage, ReadFault, WriteFault, Refused, TooMany, Memory, LinkFault, BadLetter, Starved}
 use Rattle.mesh_check.specs.Laws.{IsFair}
 use Rattle.mesh_check.proofs.Fair.{accepted_is_fair}
 use Rattle.ma_cells.proofs.SetItems.{all-ascending_of}
 
 -- it is sound, and all places are on the grid
 abbrev IsFine : AcceptedMesh → Type 0
-IsFine accepted = IsSoundMesh accepted.mesh × (mesh_is_on_grid accepted.grid accepted.mesh ≡ true)
+IsFine accepted = IsSoundMesh (set_of accepted.mesh) × (mesh_is_on_grid accepted.grid (set_of accepted.mesh) ≡ true)
 
 -- ---- the mesh of a file
 in_set : (test : Tetrahedron → Bool) (tets : List Tetrahedron) → list_all test tets ≡ true → list_all test (ascending_of tet_cmp tets) ≡ true
@@ -79,10 +81,10 @@ raw_fine : (raw : Raw) (accepted : AcceptedMesh) → accepted_in raw ≡ Ok acce
 raw_fine raw accepted e = accepted_fine raw.names (accepted_of raw 0) accepted (accepted_is_fair raw 0) e
 
 -- ---- a job
-within_is : (rounds : ℕ) (accepted : AcceptedMesh) (field : Field) (inputs : Inputs) → within_grid rounds accepted field ≡ Ok inputs → (inputs_with accepted field ≡ inputs) × (rounds ≤ accepted.grid)
-within_is rounds accepted field inputs e =
-    elim (nat_le rounds accepted.grid) as (λ b. nat_le rounds accepted.grid ≡ b → cond b (Ok (inputs_with accepted field)) (Err (Rounds rounds accepted.grid)) ≡ Ok inputs → (inputs_with accepted field ≡ inputs) × (rounds ≤ accepted.grid)) [
-      | true ↦ λ within e. (ok_is e, at_most rounds accepted.grid within)
+within_is : (rounds : ℕ) (start inputs : Inputs) → within_grid rounds start ≡ Ok inputs → (start ≡ inputs) × (rounds ≤ start.grid)
+within_is rounds start inputs e =
+    elim (nat_le rounds start.grid) as (λ b. nat_le rounds start.grid ≡ b → cond b (Ok start) (Err (Rounds rounds start.grid)) ≡ Ok inputs → (start ≡ inputs) × (rounds ≤ start.grid)) [
+      | true ↦ λ within e. (ok_is e, at_most rounds start.grid within)
       | false ↦ λ _ e. absurd cc
     ] refl e
   where
@@ -93,20 +95,57 @@ within_is rounds accepted field inputs e =
 abbrev IsReady : ℕ → Inputs → Type 0
 IsReady rounds inputs = IsSoundMesh inputs.mesh × (mesh_is_on_grid inputs.grid inputs.mesh ≡ true) × (rounds ≤ inputs.grid)
 
-found_fine : (sized : Result Field Refusal) (rounds : ℕ) (read : Result Raw Refusal) (inputs : Inputs) → ((read >>= accepted_in) >>= λ accepted. (sized >>= within_grid rounds accepted)) ≡ Ok inputs → IsReady rounds inputs
-found_fine sized rounds read inputs e =
-    let found = then_ok (read >>= accepted_in) (λ accepted. sized >>= within_grid rounds accepted) inputs e in
-    let raw = then_ok read accepted_in found.0 found.1 in
-    let field = then_ok sized (within_grid rounds found.0) inputs found.2 in
-    let within = within_is rounds found.0 field.0 inputs field.2 in
-    let fine = raw_fine raw.0 found.0 raw.2 in
-    subst (IsReady rounds) within.0 (fine.0, fine.1, within.1)
+found_fine : (files : Files) (job : Job) (inputs : Inputs) → verdict files job ≡ Ok inputs → IsReady job.rounds inputs
+found_fine files job inputs e =
+    let found = then_ok (accepted_in_file (get files job.mesh)) _ inputs e in
+    let accepted : AcceptedMesh = found.0 in
+    let raw = then_ok (raw_in_file (get files job.mesh)) accepted_in accepted found.1 in
+    let labels = then_ok (labels_for job.division (length accepted.mesh.tets) files) _ inputs found.2 in
+    let field = then_ok (field_in job.sizes files) _ inputs labels.2 in
+    let handout = then_ok (handout_for accepted.mesh job.division labels.0 files) (λ handout. within_grid job.rounds (inputs_with accepted field.0 handout)) inputs field.2 in
+    let within = within_is job.rounds (inputs_with accepted field.0 handout.0) inputs handout.2 in
+    let fine = raw_fine raw.0 accepted raw.2 in
+    subst (IsReady job.rounds) within.0 (fine.0, fine.1, within.1)
+
+-- ---- how many tetrahedra are handed out
+few_accepted : (names : List GroupName) (read : Result MarkedMesh MeshFault) (accepted : AcceptedMesh) → ((mesh : MarkedMesh) → read ≡ Ok mesh → length mesh.tets ≤ most_accepted_tets) → or_unaccepted names read ≡ Ok accepted → length accepted.mesh.tets ≤ most_accepted_tets
+few_accepted names (Ok mesh) accepted few e = subst (λ (a : AcceptedMesh). length a.mesh.tets ≤ most_accepted_tets) (ok_is e) (few mesh refl)
+few_accepted names (Err fault) accepted few e = absurd cc
+
+few_taken : (raw : Raw) (accepted : AcceptedMesh) → accepted_in raw ≡ Ok accepted → length accepted.mesh.tets ≤ most_accepted_tets
+few_taken raw accepted e = few_accepted raw.names (accepted_of raw 0) accepted (λ mesh is. (accepted_is_runnable raw mesh is).few) e
+
+handed_mesh : (mesh : MarkedMesh) (division : Option Division) (labels : Option (List ℕ)) (files : Files) (handout : Handout) → handout_for mesh division labels files ≡ Ok (Some handout) → mesh ≡ handout.mesh
+handed_mesh mesh None labels files handout e = absurd (none-some handout (ok_is e))
+handed_mesh mesh (Some division) None files handout e = absurd (none-some handout (ok_is e))
+handed_mesh mesh (Some division) (Some labels) files handout e =
+    let made : Picks → Handout = λ schedule. record { mesh = mesh; parts = division.parts; labels = labels; schedule = schedule } in
+    let bytes = then_ok (bytes_in ScheduleFile (get files division.schedule)) _ (Some handout) e in
+    let schedule = then_ok (schedule_in bytes.0) (λ schedule. Ok (Some (made schedule))) (Some handout) bytes.2 in
+    ap (λ (h : Handout). h.mesh) (same_Some (made schedule.0) handout (ok_is schedule.2))
+
+pub few_handed : (files : Files) (job : Job) (inputs : Inputs) (handout : Handout) → verdict files job ≡ Ok inputs → inputs.handout ≡ Some handout → length (whole handout).tets ≤ most_accepted_tets
+few_handed files job inputs handout e handed =
+    let found = then_ok (accepted_in_file (get files job.mesh)) _ inputs e in
+    let accepted : AcceptedMesh = found.0 in
+    let raw = then_ok (raw_in_file (get files job.mesh)) accepted_in accepted found.1 in
+    let labels = then_ok (labels_for job.division (length accepted.mesh.tets) files) _ inputs found.2 in
+    let field = then_ok (field_in job.sizes files) _ inputs labels.2 in
+    let found_handout = then_ok (handout_for accepted.mesh job.division labels.0 files) (λ handout. within_grid job.rounds (inputs_with accepted field.0 handout)) inputs field.2 in
+    let within = within_is job.rounds (inputs_with accepted field.0 found_handout.0) inputs found_handout.2 in
+    let is : found_handout.0 ≡ Some handout = ap (λ (i : Inputs). i.handout) within.0 ∙ handed in
+    let same = handed_mesh accepted.mesh job.division labels.0 files handout (found_handout.1 ∙ ap Ok is) in
+    let few = subst (λ (m : MarkedMesh). length m.tets ≤ most_accepted_tets) same (few_taken raw.0 accepted raw.2) in
+    at_most (length (whole handout).tets) (length handout.mesh.tets) (no_more handout.mesh handout.labels) few
+  where
+    at_most : (m n : ℕ) → m ≤ n → n ≤ most_accepted_tets → m ≤ most_accepted_tets
+    at_most m n h k = omega arith
 
 pub rounds_keep_geometry : RoundsKeepGeometry
 rounds_keep_geometry files job inputs round e few =
     let mesh : Batch = inputs.mesh in
     let plan : Plan = plan_of job inputs in
-    let found = found_fine (field_in job.sizes files) job.rounds (raw_in_file (get files job.mesh)) inputs e in
+    let found = found_fine files job inputs e in
     let left : (inputs.grid - round) + round ≡ inputs.grid = let most = found.2 in omega arith in
     record {
       sound = found.0;
@@ -115,32 +154,40 @@ rounds_keep_geometry files job inputs round e few =
     }
 
 -- ---- a run
-one_output : (job : Job) (inputs : Inputs) → outputs (acts job inputs) ≡ record { name = mesh_name job; bytes = final_text job inputs } ∷ []
-one_output job inputs = one_stored job inputs (PutLine done_line ∷ []) refl
+-- where all letters arrive, a run ends with the mesh after its rounds
+ends_in_final : (job : Job) (inputs : Inputs) (handout : Option Handout) (s t : Seen) (ending : Ending) → MayEnd job inputs handout s.carrier t.carrier ending → LettersArrive s handout → ending.mesh ≡ final job inputs
+ends_in_final job inputs None s t ending ends arrive = ap (λ (e : Ending). e.mesh) ends
+ends_in_final job inputs (Some handout) s t ending ends arrive = ap (λ (e : Ending). e.mesh) (ends.4 arrive)
 
-stored_kept : (words : Option Job) (before : Option Files) (t : Seen) (job : Job) (inputs : Inputs) → words ≡ Some job → IfSome before (λ files. verdict files job ≡ Ok inputs)
-    → IfSome before (λ files. t.depot.files ≡ Some (insert files (mesh_name job) (final_text job inputs))) → IfSome before (λ files. StoresKept words files t)
-stored_kept words None t job inputs words_are verdict_is stored = tt
-stored_kept words (Some files) t job inputs words_are verdict_is stored = record {
-  job = job;
-  inputs = inputs;
-  new = final job inputs;
-  words_are = words_are;
-  verdict_is = verdict_is;
-  stored = stored;
-  kept = rounds_keep_geometry files job inputs job.rounds verdict_is (itself job.rounds);
-}
-  where
-    itself : (n : ℕ) → n ≤ n
-    itself n = omega arith
+module _ (words : Option Job) (s t : Seen) (job : Job) (inputs : Inputs) (ending : Ending) (words_are : words ≡ Some job) (ends : MayEnd job inputs inputs.handout s.carrier t.carrier ending) where
+  stored_kept : (before : Option Files) → IfSome before (λ files. verdict files job ≡ Ok inputs) → Stores (all_outputs job inputs ending) before t.depot.files → IfSome before (λ files. StoresKept words files s t)
+  stored_kept None verdict_is stored = tt
+  stored_kept (Some files) verdict_is stored = record {
+    job = job;
+    inputs = inputs;
+    new = ending.mesh;
+    words_are = words_are;
+    verdict_is = verdict_is;
+    views = ending.views;
+    stored = stored;
+    kept = λ arrive.
+        let is : ending.mesh ≡ final job inputs = ends_in_final job inputs inputs.handout s t ending ends arrive in
+        subst (λ (mesh : Batch). KeepsGeometry inputs job.rounds mesh) (sym is) (rounds_keep_geometry files job inputs job.rounds verdict_is (itself job.rounds));
+  }
+    where
+      itself : (n : ℕ) → n ≤ n
+      itself n = omega arith
 
 pub geometry_is_kept : (status : Status) (words : Option Job) (s t : Seen) → Leaves status words s t → GeometryIsKept status words s t
 geometry_is_kept Done words s t h =
-    stored_kept words s.depot.files t h.job h.inputs h.words_are h.verdict
-    (subst (λ (outs : List Output). Stores outs s.depot.files t.depot.files) (one_output h.job h.inputs) h.files)
+    stored_kept words s t h.job h.inputs h.ending h.words_are h.ends s.depot.files h.verdict
+    (subst (λ (outs : List Output). Stores outs s.depot.files t.depot.files) (all-outputs h.job h.inputs h.ending) h.files)
 geometry_is_kept Usage words s t h = tt
 geometry_is_kept ReadFault words s t h = tt
 geometry_is_kept WriteFault words s t h = tt
 geometry_is_kept (Refused refusal) words s t h = tt
 geometry_is_kept (TooMany round stage count) words s t h = tt
 geometry_is_kept Memory words s t h = tt
+geometry_is_kept LinkFault words s t h = tt
+geometry_is_kept (BadLetter bytes) words s t h = tt
+geometry_is_kept (Starved part phase) words s t h = tt

@@ -1,7 +1,17 @@
 pub mod Numbers
 pub mod Pieces
+pub mod Ranges
+pub mod FetchedFiles
+pub mod Fetchings
+pub mod Handouts
 pub mod Acting
 pub mod InTurn
 pub mod Running
+pub mod OneByOne
 pub mod Ending
+pub mod Halted
+pub mod HandedOut
+pub mod Divided
+pub mod Begun
 pub mod Kept
+pub mod WhenDue

@@ -1,6 +1,6 @@
 -- One round after others, and rounds after the line of the mesh.
-use Rattle.std.proofs.Common.{◌≡◌, ℕ, suc, ◌+◌, ◌-◌, ◌<◌, ◌≤◌, false, List, [], ◌∷◌, ◌++◌, length, inl, inr, refl, sym, subst, ap, add-one, arith}
-use Rattle.std.specs.Prelude.{Err}
+use Rattle.std.proofs.Common.{◌≡◌, ℕ, suc, ◌+◌, ◌-◌, ◌<◌, ◌≤◌, false, List, [], length, inl, inr, refl, sym, subst, ap, add-one, arith}
+use Rattle.std.specs.Prelude.{Result, Ok, Err}
 use Rattle.std.proofs.lemmas.Bool.{cases_lt}
 use Rattle.ma_cells.specs.declared.batch.Batch.{Batch}
 use Rattle.ma_io.specs.Received.{Received}
@@ -8,9 +8,9 @@ use Rattle.one_mesh.specs.Adaptation.{IsFirstPast, IsFirstStagePast, Plan, Round
 use Rattle.one_mesh.specs.Holding.{Holding}
 use Rattle.meshadapt.specs.declared.halt.Halt.{Halt}
 use Rattle.meshadapt.specs.declared.halt.Halt.TheVariants as halt
-use Rattle.meshadapt.specs.Acts.{Act, PutLine, StoreFile, begun, bytes_of, final_text, round_acts}
+use Rattle.meshadapt.specs.Acts.{begun, bytes_of, round_acts}
 use Rattle.meshadapt.specs.Outcome.{Puts, PutsFront}
-use Rattle.meshadapt.specs.Printed.{done_line, mesh_line, mesh_name, round_line}
+use Rattle.meshadapt.specs.Printed.{mesh_line, round_line}
 use Rattle.meshadapt.specs.Verdict.{Inputs, plan_of}
 use Rattle.meshadapt.specs.Words.{Job}
 use Rattle.meshadapt.specs.steps.Running.{Begins, HaltsBegun, HaltsRounds, PutsLine, RanRounds, RunsRound, RunsRounds}
@@ -87,6 +87,7 @@ module _ (plan : Plan) (mesh : Batch) where
   halts X Y done rounds held new last s m t (halt.TooMany round stage count) more before ran = past done rounds held s m t round stage count more before ran.0 ran.1 ran.2
   halts X Y done rounds held new last s m t (halt.Unstored name) more before ran = ran
   halts X Y done rounds held new last s m t halt.Unput more before ran = unput done rounds held s m t more before ran
+  halts X Y done rounds held new last s m t (halt.Parts fault) more before ran = ran
   halts X Y done rounds held new last s m t halt.Memory more before ran = tt
 
 -- ---- a line that could not be put
@@ -96,13 +97,18 @@ line_halts X Y line s t (halt.Refused refusal) h = h
 line_halts X Y line s t (halt.TooMany round stage count) h = h
 line_halts X Y line s t (halt.Unstored name) h = h
 line_halts X Y line s t halt.Unput h = h
+line_halts X Y line s t (halt.Parts fault) h = h
 line_halts X Y line s t halt.Memory h = tt
+
+-- ---- of the same mesh
+pub line_of : (X : Type 0) (result : Result X Halt) (mesh same : Batch) (loose count : ℕ) → mesh ≡ same → loose ≡ count → (s t : Received) → PutsLine result (mesh_line mesh loose) s t → PutsLine result (mesh_line same count) s t
+line_of X result mesh same loose count e f s t h = subst (λ (n : ℕ). PutsLine result (mesh_line same n) s t) f (subst (λ (b : Batch). PutsLine result (mesh_line b loose) s t) e h)
+
+pub rounds_of : (X : Type 0) (result : Result X Halt) (plan : Plan) (rounds : ℕ) (mesh same : Batch) (new : Holding) → mesh ≡ same → (s t : Received) → RunsRounds result plan rounds mesh new s t → RunsRounds result plan rounds same new s t
+rounds_of X result plan rounds mesh same new e s t h = subst (λ (b : Batch). RunsRounds result plan rounds b new s t) e h
 
 -- ---- the line of the mesh, and the rounds
 module _ (job : Job) (inputs : Inputs) where
-  abbrev tail : List Act
-  tail = StoreFile (mesh_name job) (final_text job inputs) ∷ PutLine done_line ∷ []
-
   pub first_halts : (X Y : Type 0) (new : Holding) (s t : Received) (why : Halt) → PutsLine {X = X} (Err why) (mesh_line inputs.mesh inputs.loose) s t → Begins {X = Y} (Err why) job inputs new s t
   first_halts X Y new s t (halt.Unread file) h = h
   first_halts X Y new s t (halt.Refused refusal) h = h
@@ -111,19 +117,23 @@ module _ (job : Job) (inputs : Inputs) where
   first_halts X Y new s t halt.Unput h = record {
     done = [];
     line = mesh_line inputs.mesh inputs.loose;
-    rest = round_acts (plan_of job inputs) job.rounds inputs.mesh ++ tail;
+    rest = round_acts (plan_of job inputs) job.rounds inputs.mesh;
     acts_are = refl;
     within = among_first job inputs (mesh_line inputs.mesh inputs.loose);
     none_stored = refl;
     front = h;
   }
+  first_halts X Y new s t (halt.Parts fault) h = h
   first_halts X Y new s t halt.Memory h = tt
+
+  pub begun_all : (new : Holding) (s m t : Received) → Puts (mesh_line inputs.mesh inputs.loose) s m → RanRounds (plan_of job inputs) job.rounds inputs.mesh new m t → Begins {X = Unit {0}} (Ok tt) job inputs new s t
+  begun_all new s m t h k = (k.0, k.1, puts_then (mesh_line inputs.mesh inputs.loose) (bytes_of (round_acts (plan_of job inputs) job.rounds inputs.mesh)) s m t h k.2)
 
   begun_unput : (s m t : Received) → Puts (mesh_line inputs.mesh inputs.loose) s m → HaltsRounds (plan_of job inputs) job.rounds inputs.mesh m t → HaltsBegun job inputs s t
   begun_unput s m t h k =
       let plan : Plan = plan_of job inputs in
       let line : List ℕ = round_line (k.done + 1) (adapted plan (k.done + 1) inputs.mesh) in
-      let next = next_round job inputs k.done tail k.more in
+      let next = next_round job inputs k.done k.more in
       record {
         done = begun k.done job inputs;
         line = line;
@@ -142,4 +152,5 @@ module _ (job : Job) (inputs : Inputs) where
       (k.0, puts_then (mesh_line inputs.mesh inputs.loose) (bytes_of (round_acts (plan_of job inputs) (round - 1) inputs.mesh)) s m t h k.1)
   begun_halts X Y held new s m t (halt.Unstored name) h k = k
   begun_halts X Y held new s m t halt.Unput h k = begun_unput s m t h k
+  begun_halts X Y held new s m t (halt.Parts fault) h k = k
   begun_halts X Y held new s m t halt.Memory h k = tt

@@ -1,5 +1,5 @@
 -- What a run leaves, by the status that it ends with.
-use Rattle.std.specs.Prelude.{◌≡◌, ℕ, ◌-◌, ◌⊎◌, true, List, [], ◌∷◌, ◌++◌, take, Option, Some, None, Result, Ok, Err, IfSome}
+use Rattle.std.specs.Prelude.{◌≡◌, ℕ, ◌-◌, ◌<◌, ◌⊎◌, Bool, true, false, List, [], ◌∷◌, ◌++◌, length, take, Option, Some, None, Result, Ok, Err, IfSome, is_some}
 use Rattle.ma_io.specs.Count.{Rose}
 use Rattle.ma_io.specs.Files.{Files}
 use Rattle.ma_io.specs.Held.{Held}
@@ -7,25 +7,34 @@ use Rattle.ma_io.specs.Received.{Received}
 use Rattle.ma_io.specs.Store.{HoldsFront}
 use Rattle.job_files.specs.declared.fault.JobFault.TheVariants as job_faults
 use Rattle.mesh_check.specs.declared.fault.MeshFault.TheVariants as faults
+use Rattle.carrier.specs.Carried.{Carried, Letters}
+use Rattle.part_core.specs.Parts.{PartState}
+use Rattle.part_rules.specs.declared.course.Course.{Course}
+use Rattle.world_run.specs.Drawn.{Draws, EndsAlone, IfAllIsTold, letter_count, picks_left}
+use Rattle.world_run.specs.Replay.{begun_parts}
+use Rattle.world_run.specs.Told.{HasCause, RunTells, WorldState}
+use Rattle.world_run.specs.declared.fault.RunFault.{RunFault}
+use Rattle.world_run.specs.declared.fault.RunFault.TheVariants as run
 use Rattle.msh_read.specs.declared.fault.MshFault.TheVariants.{At, Memory as NoMemory}
 use Rattle.one_mesh.specs.Adaptation.{IsFirstPast, StaysWithin}
-use Rattle.meshadapt.specs.Acts.{Act, PutLine, StoreFile, Output, acts, begun, bytes_of, files_with, outputs, rounds_among}
+use Rattle.meshadapt.specs.Acts.{Act, PutLine, StoreFile, Ending, Output, acts_to, begun, bytes_of, ending_by, files_with, meant_ending, outputs, plain_ending, rounds_among, whole}
 use Rattle.meshadapt.specs.declared.status.Refusal.{Refusal}
-use Rattle.meshadapt.specs.declared.status.Refusal.TheVariants.{Missing, TooLong, Mesh, Accept, Size, Rounds}
+use Rattle.meshadapt.specs.declared.status.Refusal.TheVariants.{Missing, TooLong, Mesh, Accept, Partition, Size, Schedule, Rounds}
 use Rattle.meshadapt.specs.declared.status.FileKind.{FileKind}
 use Rattle.meshadapt.specs.declared.status.Status.{Status}
-use Rattle.meshadapt.specs.declared.status.Status.TheVariants.{Done, Usage, ReadFault, WriteFault, Refused, TooMany, Memory}
-use Rattle.meshadapt.specs.Printed.{file_name, is_of_job, read_fault_line, refused_line, too_many_line, usage_line, write_fault_line}
-use Rattle.meshadapt.specs.Verdict.{Inputs, plan_of, verdict}
+use Rattle.meshadapt.specs.declared.status.Status.TheVariants.{Done, Usage, ReadFault, WriteFault, Refused, TooMany, Memory, LinkFault, BadLetter, Starved}
+use Rattle.meshadapt.specs.Printed.{bad_letter_line, file_name, is_of_job, link_fault_line, read_fault_line, refused_line, starved_line, too_many_line, usage_line, write_fault_line}
+use Rattle.meshadapt.specs.Verdict.{Handout, Inputs, plan_of, verdict}
 use Rattle.meshadapt.specs.Words.{Job}
 
--- what the depot and the sink mean at one moment
+-- what the depot, the carrier and the sink mean at one moment
 pub record Seen : Type 0 where
   pub depot : Held
+  pub carrier : Carried
   pub sink : Received
 
-abbrev pub seen : Held → Received → Seen
-seen depot sink = record { depot = depot; sink = sink }
+abbrev pub seen : Held → Carried → Received → Seen
+seen depot carrier sink = record { depot = depot; carrier = carrier; sink = sink }
 
 -- where the depot tells its files, this is the verdict on the job
 abbrev pub IsVerdict : Seen → Job → Result Inputs Refusal → Type 0
@@ -54,13 +63,48 @@ PutsFront bytes line s t = Rose s.faults t.faults × IfSome s.written (λ before
 abbrev pub PutsLast : List ℕ → List ℕ → Received → Received → Type 0
 PutsLast bytes line s t = Puts (bytes ++ line) s t ⊎ PutsFront bytes line s t
 
+-- ---- parts
+abbrev pub course_of : Job → Inputs → Handout → Course
+course_of job inputs handout = record { parts = handout.parts; grid = inputs.grid; collapse = job.collapses; swap = job.swaps; field = inputs.field }
+
+-- the parts of a mesh once they have begun the first round of all
+abbrev pub parts_at_first : Job → Inputs → Handout → List PartState
+parts_at_first job inputs handout = begun_parts (course_of job inputs handout) (whole handout)
+
+-- that all letters of so many parts arrive: one part sends none; else the carrier tells which it hands out and which wait, and none waited
+abbrev pub AllArrive : ℕ → Carried → Type 0
+AllArrive parts carried = (parts ≡ 1) ⊎ ((carried.held ≡ Some []) × ((before : Letters) × (carried.given ≡ Some before)))
+
+-- that parts have come to this over the carrier: where it told what it handed out, by the letters that it handed out in this run. Where it told besides which letters wait, and none did, these are the ones that the schedule draws, no letter was bad, and none was missing. One part comes to its end by itself
+pub record ComesOf (job : Job) (inputs : Inputs) (handout : Handout) (s t : Carried) (result : Result WorldState RunFault) : Type 0 where
+  pub told : IfSome s.given (λ before. RunTells (parts_at_first job inputs handout) before t.given result)
+  pub drawn : IfAllIsTold s (λ before. Draws (course_of job inputs handout) (whole handout) (picks_left handout.schedule) before t result)
+  pub alone : handout.parts ≡ 1 → EndsAlone (course_of job inputs handout) (whole handout) s t result
+
+-- these are all parts, and as many letters have come to them as the first round has
+pub record AreAll (handout : Handout) (world : WorldState) : Type 0 where
+  pub parts : length world.parts ≡ handout.parts
+  pub letters : world.letters ≡ letter_count handout.parts
+
+-- that a run may end so: without parts by the mesh alone; over parts by what these have come to, which is what is meant where all letters arrive
+abbrev pub MayEnd : Job → Inputs → Option Handout → Carried → Carried → Ending → Type 0
+MayEnd job inputs None s t ending = ending ≡ plain_ending job inputs
+MayEnd job inputs (Some handout) s t ending =
+    (world : WorldState) × ComesOf job inputs handout s t (Ok world) × AreAll handout world × (ending ≡ ending_by world) × (AllArrive handout.parts s → ending ≡ meant_ending job inputs (Some handout))
+
 -- ---- by the status
+-- that a run with this end came to an act after these: before the end, whatever it is
+pub record IsOnTheWay (job : Job) (inputs : Inputs) (s t : Carried) (done : List Act) (act : Act) : Type 0 where
+  pub ending : Ending
+  pub rest : List Act
+  pub acts_are : acts_to ending job inputs ≡ done ++ act ∷ rest
+  pub ends : (length done < length (begun job.rounds job inputs)) ⊎ MayEnd job inputs inputs.handout s t ending
+
 -- the job of the words was accepted, and its run came to this act after these. The rounds whose lines were put or due are within the limit
-pub record ComesTo (words : Option Job) (s : Seen) (job : Job) (inputs : Inputs) (done : List Act) (act : Act) : Type 0 where
+pub record ComesTo (words : Option Job) (s t : Seen) (job : Job) (inputs : Inputs) (done : List Act) (act : Act) : Type 0 where
   pub words_are : words ≡ Some job
   pub verdict : IsVerdict s job (Ok inputs)
-  pub rest : List Act
-  pub acts_are : acts job inputs ≡ done ++ act ∷ rest
+  pub way : IsOnTheWay job inputs s.carrier t.carrier done act
   pub within : StaysWithin (plan_of job inputs) (rounds_among job (done ++ act ∷ [])) inputs.mesh
 
 -- all acts were done
@@ -70,12 +114,15 @@ pub record LeavesDone (words : Option Job) (s t : Seen) : Type 0 where
   pub words_are : words ≡ Some job
   pub verdict : IsVerdict s job (Ok inputs)
   pub within : StaysWithin (plan_of job inputs) job.rounds inputs.mesh
-  pub files : Stores (outputs (acts job inputs)) s.depot.files t.depot.files
-  pub printed : Puts (bytes_of (acts job inputs)) s.sink t.sink
+  pub ending : Ending
+  pub ends : MayEnd job inputs inputs.handout s.carrier t.carrier ending
+  pub files : Stores (outputs (acts_to ending job inputs)) s.depot.files t.depot.files
+  pub printed : Puts (bytes_of (acts_to ending job inputs)) s.sink t.sink
 
 pub record LeavesUsage (words : Option Job) (s t : Seen) : Type 0 where
   pub words_are : words ≡ None
   pub files : t.depot.files ≡ s.depot.files
+  pub carrier : t.carrier ≡ s.carrier
   pub printed : PutsLast [] usage_line s.sink t.sink
 
 -- the fetch of a file of the job failed
@@ -86,6 +133,7 @@ pub record LeavesReadFault (words : Option Job) (s t : Seen) : Type 0 where
   pub is_of_it : is_of_job job file ≡ true
   pub counted : Rose s.depot.fetch_faults t.depot.fetch_faults
   pub files : t.depot.files ≡ s.depot.files
+  pub carrier : t.carrier ≡ s.carrier
   pub printed : PutsLast [] (read_fault_line (file_name job file)) s.sink t.sink
 
 -- A file is missing or too long only where the depot counted that. No refusal is want of memory.
@@ -96,8 +144,12 @@ RefusalCounted (Mesh (At line kind)) s t = Unit {0}
 RefusalCounted (Mesh NoMemory) s t = ⊥
 RefusalCounted (Accept faults.Memory) s t = ⊥
 RefusalCounted (Accept fault) s t = Unit {0}
+RefusalCounted (Partition job_faults.Memory) s t = ⊥
+RefusalCounted (Partition fault) s t = Unit {0}
 RefusalCounted (Size job_faults.Memory) s t = ⊥
 RefusalCounted (Size fault) s t = Unit {0}
+RefusalCounted (Schedule job_faults.Memory) s t = ⊥
+RefusalCounted (Schedule fault) s t = Unit {0}
 RefusalCounted (Rounds rounds grid) s t = Unit {0}
 
 pub record LeavesRefused (refusal : Refusal) (words : Option Job) (s t : Seen) : Type 0 where
@@ -106,6 +158,7 @@ pub record LeavesRefused (refusal : Refusal) (words : Option Job) (s t : Seen) :
   pub verdict : IsVerdict s job (Err refusal)
   pub counted : RefusalCounted refusal s.depot t.depot
   pub files : t.depot.files ≡ s.depot.files
+  pub carrier : t.carrier ≡ s.carrier
   pub printed : PutsLast [] (refused_line refusal) s.sink t.sink
 
 -- the acts before the first round past the limit were done
@@ -114,9 +167,23 @@ pub record LeavesTooMany (round stage count : ℕ) (words : Option Job) (s t : S
   pub inputs : Inputs
   pub words_are : words ≡ Some job
   pub verdict : IsVerdict s job (Ok inputs)
+  pub alone : inputs.handout ≡ None
   pub first : IsFirstPast (plan_of job inputs) job.rounds inputs.mesh round stage count
   pub files : t.depot.files ≡ s.depot.files
   pub printed : PutsLast (bytes_of (begun (round - 1) job inputs)) (too_many_line round stage count) s.sink t.sink
+
+-- the parts of a mesh came to a fault, by which the run ended with this line
+pub record LeavesParts (fault : RunFault) (line : List ℕ) (words : Option Job) (s t : Seen) : Type 0 where
+  pub job : Job
+  pub inputs : Inputs
+  pub handout : Handout
+  pub words_are : words ≡ Some job
+  pub verdict : IsVerdict s job (Ok inputs)
+  pub handed : inputs.handout ≡ Some handout
+  pub comes : ComesOf job inputs handout s.carrier t.carrier (Err fault)
+  pub cause : HasCause {W = WorldState} s.carrier t.carrier (Err fault)
+  pub files : t.depot.files ≡ s.depot.files
+  pub printed : PutsLast (bytes_of (begun 0 job inputs)) line s.sink t.sink
 
 -- the store of a file failed
 pub record LeavesUnstored (words : Option Job) (s t : Seen) : Type 0 where
@@ -125,7 +192,7 @@ pub record LeavesUnstored (words : Option Job) (s t : Seen) : Type 0 where
   pub done : List Act
   pub name : List ℕ
   pub bytes : List ℕ
-  pub comes : ComesTo words s job inputs done (StoreFile name bytes)
+  pub comes : ComesTo words s t job inputs done (StoreFile name bytes)
   pub counted : Rose s.depot.store_faults t.depot.store_faults
   pub files : StoresFront (outputs done) name bytes s.depot.files t.depot.files
   pub printed : PutsLast (bytes_of done) (write_fault_line name) s.sink t.sink
@@ -136,7 +203,7 @@ pub record LeavesUnput (words : Option Job) (s t : Seen) : Type 0 where
   pub inputs : Inputs
   pub done : List Act
   pub line : List ℕ
-  pub comes : ComesTo words s job inputs done (PutLine line)
+  pub comes : ComesTo words s t job inputs done (PutLine line)
   pub files : Stores (outputs done) s.depot.files t.depot.files
   pub printed : PutsFront (bytes_of done) line s.sink t.sink
 
@@ -147,7 +214,7 @@ pub record LeavesStored (words : Option Job) (s t : Seen) : Type 0 where
   pub done : List Act
   pub name : List ℕ
   pub bytes : List ℕ
-  pub comes : ComesTo words s job inputs done (StoreFile name bytes)
+  pub comes : ComesTo words s t job inputs done (StoreFile name bytes)
   pub files : StoresFront (outputs done) name bytes s.depot.files t.depot.files
 
 abbrev pub LeavesMemory : Option Job → Seen → Seen → Type 0
@@ -159,13 +226,30 @@ Leaves Usage words s t = LeavesUsage words s t
 Leaves ReadFault words s t = LeavesReadFault words s t
 Leaves WriteFault words s t = LeavesUnstored words s t ⊎ LeavesUnput words s t
 Leaves (Refused refusal) words s t = LeavesRefused refusal words s t
-Leaves (TooMany round stage count) words s t = LeavesTooMany round stage count words s t
+Leaves (TooMany round stage count) words s t = LeavesTooMany round stage count words s t ⊎ LeavesParts (run.Over round stage count) (too_many_line round stage count) words s t
 Leaves Memory words s t = LeavesMemory words s t
+Leaves LinkFault words s t = LeavesParts run.Link link_fault_line words s t
+Leaves (BadLetter bytes) words s t = LeavesParts (run.BadLetter bytes) (bad_letter_line bytes.items) words s t
+Leaves (Starved part phase) words s t = LeavesParts (run.Starved part phase) (starved_line part phase) words s t
+
+-- ---- the carrier
+abbrev pub are_over_parts : Option Job → Bool
+are_over_parts None = false
+are_over_parts (Some job) = is_some job.division
+
+-- words that are not of a run over parts leave it as it was
+abbrev pub LeavesCarrier : Option Job → Seen → Seen → Type 0
+LeavesCarrier words s t = are_over_parts words ≡ false → t.carrier ≡ s.carrier
 
 -- ---- when each status comes
 -- no fault was counted
 abbrev pub IsQuiet : Seen → Seen → Type 0
-IsQuiet s t = ¬ (Rose s.depot.fetch_faults t.depot.fetch_faults) × ¬ (Rose s.depot.store_faults t.depot.store_faults) × ¬ (Rose s.sink.faults t.sink.faults)
+IsQuiet s t = ¬ (Rose s.depot.fetch_faults t.depot.fetch_faults) × ¬ (Rose s.depot.store_faults t.depot.store_faults) × ¬ (Rose s.carrier.faults t.carrier.faults) × ¬ (Rose s.sink.faults t.sink.faults)
+
+-- that all letters of a job arrive, if it has any
+abbrev pub LettersArrive : Seen → Option Handout → Type 0
+LettersArrive s None = Unit {0}
+LettersArrive s (Some handout) = AllArrive handout.parts s.carrier
 
 -- this status, unless memory ran out
 abbrev pub EndsWith : Status → Status → Type 0
@@ -180,14 +264,14 @@ abbrev pub RefusalIsAnswered : Status → Option Job → Seen → Seen → Type 
 RefusalIsAnswered status words s t =
     (job : Job) (files : Files) (refusal : Refusal) → words ≡ Some job → s.depot.files ≡ Some files → verdict files job ≡ Err refusal → IsQuiet s t → EndsWith status (Refused refusal)
 
--- likewise, a job that is accepted is done, if its mesh stays within the limit
+-- likewise, a job that is accepted is done, if its mesh stays within the limit and all its letters arrive
 abbrev pub AcceptedIsDone : Status → Option Job → Seen → Seen → Type 0
 AcceptedIsDone status words s t =
     (job : Job) (files : Files) (inputs : Inputs) → words ≡ Some job → s.depot.files ≡ Some files → verdict files job ≡ Ok inputs
-    → StaysWithin (plan_of job inputs) job.rounds inputs.mesh → IsQuiet s t → EndsWith status Done
+    → StaysWithin (plan_of job inputs) job.rounds inputs.mesh → LettersArrive s inputs.handout → IsQuiet s t → EndsWith status Done
 
 -- likewise, the first stage after which the mesh of such a job is past the limit is answered
 abbrev pub TooManyIsAnswered : Status → Option Job → Seen → Seen → Type 0
 TooManyIsAnswered status words s t =
     (job : Job) (files : Files) (inputs : Inputs) (round stage count : ℕ) → words ≡ Some job → s.depot.files ≡ Some files → verdict files job ≡ Ok inputs
-    → IsFirstPast (plan_of job inputs) job.rounds inputs.mesh round stage count → IsQuiet s t → EndsWith status (TooMany round stage count)
+    → inputs.handout ≡ None → IsFirstPast (plan_of job inputs) job.rounds inputs.mesh round stage count → IsQuiet s t → EndsWith status (TooMany round stage count)

@@ -2,7 +2,10 @@
 use Rattle.std.specs.Prelude.{ℕ, nat_le, if◌then◌else◌, List, [], length, Option, Some, None, Result, Ok, Err}
 use Rattle.std.specs.FinMap.{get}
 use Rattle.job_files.specs.declared.fault.JobFault.{JobFault}
+use Rattle.job_files.specs.Partition.{labels_of}
+use Rattle.job_files.specs.Schedule.{schedule_of}
 use Rattle.job_files.specs.Sizes.{field_of}
+use Rattle.carrier.specs.Schedule.{Picks}
 use Rattle.ma_io.specs.Files.{Files}
 use Rattle.ma_cells.specs.Grid.{grid_of}
 use Rattle.ma_cells.specs.Meshes.{MarkedMesh}
@@ -18,25 +21,32 @@ use Rattle.one_mesh.specs.Adaptation.{Plan}
 use Rattle.one_mesh.specs.Holding.{set_of}
 use Rattle.size_marks.specs.Field.{Field}
 use Rattle.meshadapt.specs.declared.status.FileKind.{FileKind}
-use Rattle.meshadapt.specs.declared.status.FileKind.TheVariants.{MeshFile, SizeFile}
+use Rattle.meshadapt.specs.declared.status.FileKind.TheVariants.{MeshFile, PartitionFile, SizeFile, ScheduleFile}
 use Rattle.meshadapt.specs.declared.status.Refusal.{Refusal}
-use Rattle.meshadapt.specs.declared.status.Refusal.TheVariants.{Missing, TooLong, Mesh, Accept, Size, Rounds}
-use Rattle.meshadapt.specs.Words.{Job, Sizes, Uniform, InFile}
+use Rattle.meshadapt.specs.declared.status.Refusal.TheVariants.{Missing, TooLong, Mesh, Accept, Partition, Size, Schedule, Rounds}
+use Rattle.meshadapt.specs.Words.{Division, Job, Sizes, Uniform, InFile}
 
--- the mesh that is accepted, its grid exponent, how many of its file's marks were loose, and the names of its file
+-- the mesh that is accepted, its grid exponent, and the names of its file
 pub record AcceptedMesh : Type 0 where
-  pub mesh : Batch
+  pub mesh : MarkedMesh
   pub grid : ℕ
-  pub loose : ℕ
   pub names : List GroupName
 
--- what a run starts from: these, and the sizes of edges
+-- a mesh in the order of its file, the number of parts, the part of each tetrahedron, and the picks by which letters are taken
+pub record Handout : Type 0 where
+  pub mesh : MarkedMesh
+  pub parts : ℕ
+  pub labels : List ℕ
+  pub schedule : Picks
+
+-- what a run starts from: the mesh as sets, its grid exponent, how many of its file's marks were loose, the names of its file, the sizes of edges, and how the mesh is handed out, if it is
 pub record Inputs : Type 0 where
   pub mesh : Batch
   pub grid : ℕ
   pub loose : ℕ
   pub names : List GroupName
   pub field : Field
+  pub handout : Option Handout
 
 -- what each of its rounds does
 abbrev pub plan_of : Job → Inputs → Plan
@@ -63,9 +73,9 @@ raw_in bytes = or_unread (read_of bytes)
 abbrev pub raw_in_file : Option (List ℕ) → Result Raw Refusal
 raw_in_file file = bytes_in MeshFile file >>= raw_in
 
--- a mesh, as sets, with these names
+-- a mesh with these names
 abbrev pub accepted_with : List GroupName → MarkedMesh → AcceptedMesh
-accepted_with names mesh = record { mesh = set_of mesh; grid = grid_of mesh.tets; loose = mesh.loose; names = names }
+accepted_with names mesh = record { mesh = mesh; grid = grid_of mesh.tets; names = names }
 
 abbrev pub or_unaccepted : List GroupName → Result MarkedMesh MeshFault → Result AcceptedMesh Refusal
 or_unaccepted names (Ok mesh) = Ok (accepted_with names mesh)
@@ -92,16 +102,52 @@ abbrev pub field_in : Sizes → Files → Result Field Refusal
 field_in (Uniform size) files = Ok (record { default = size; boxes = [] })
 field_in (InFile name) files = bytes_in SizeFile (get files name) >>= sizes_in
 
-abbrev pub inputs_with : AcceptedMesh → Field → Inputs
-inputs_with accepted field = record { mesh = accepted.mesh; grid = accepted.grid; loose = accepted.loose; names = accepted.names; field = field }
+abbrev pub or_undivided : Result (List ℕ) JobFault → Result (List ℕ) Refusal
+or_undivided (Ok labels) = Ok labels
+or_undivided (Err fault) = Err (Partition fault)
+
+-- the part of each of so many tetrahedra, as the bytes of a partition file tell it
+abbrev pub labels_in : ℕ → ℕ → List ℕ → Result (List ℕ) Refusal
+labels_in tets parts bytes = or_undivided (labels_of tets parts bytes)
+
+abbrev pub or_unscheduled : Result Picks JobFault → Result Picks Refusal
+or_unscheduled (Ok schedule) = Ok schedule
+or_unscheduled (Err fault) = Err (Schedule fault)
+
+-- the picks that the bytes of a schedule file tell
+abbrev pub schedule_in : List ℕ → Result Picks Refusal
+schedule_in bytes = or_unscheduled (schedule_of bytes)
+
+-- the labels of a job's division, if there is one
+abbrev pub labels_for : Option Division → ℕ → Files → Result (Option (List ℕ)) Refusal
+labels_for None tets files = Ok None
+labels_for (Some division) tets files = do
+  bytes ← bytes_in PartitionFile (get files division.partition)
+  labels ← labels_in tets division.parts bytes
+  Ok (Some labels)
+
+-- how the mesh is handed out, once the labels are known
+abbrev pub handout_for : MarkedMesh → Option Division → Option (List ℕ) → Files → Result (Option Handout) Refusal
+handout_for mesh (Some division) (Some labels) files = do
+  bytes ← bytes_in ScheduleFile (get files division.schedule)
+  schedule ← schedule_in bytes
+  Ok (Some (record { mesh = mesh; parts = division.parts; labels = labels; schedule = schedule }))
+handout_for mesh _ _ files = Ok None
+
+abbrev pub inputs_with : AcceptedMesh → Field → Option Handout → Inputs
+inputs_with accepted field handout =
+    record { mesh = set_of accepted.mesh; grid = accepted.grid; loose = accepted.mesh.loose; names = accepted.names; field = field; handout = handout }
 
 -- A round halves the grid, so that there are at most as many rounds as its exponent.
-abbrev pub within_grid : ℕ → AcceptedMesh → Field → Result Inputs Refusal
-within_grid rounds accepted field = if nat_le rounds accepted.grid then Ok (inputs_with accepted field) else Err (Rounds rounds accepted.grid)
+abbrev pub within_grid : ℕ → Inputs → Result Inputs Refusal
+within_grid rounds inputs = if nat_le rounds inputs.grid then Ok inputs else Err (Rounds rounds inputs.grid)
 
--- the mesh's file is there, it can be read, the mesh is accepted; the size file, if the words name one, is there and can be read; and the grid is fine enough; or the first of these that fails
+-- the mesh's file is there, it can be read, the mesh is accepted; the partition file, if the words name one, is there and tells the part of each tetrahedron; so is the size file, if they name one, and
+-- can be read; so is the schedule; and the grid is fine enough; or the first of these that fails
 abbrev pub verdict : Files → Job → Result Inputs Refusal
 verdict files job = do
   accepted ← accepted_in_file (get files job.mesh)
+  labels ← labels_for job.division (length accepted.mesh.tets) files
   field ← field_in job.sizes files
-  within_grid job.rounds accepted field
+  handout ← handout_for accepted.mesh job.division labels files
+  within_grid job.rounds (inputs_with accepted field handout)

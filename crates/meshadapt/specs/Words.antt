@@ -10,10 +10,17 @@ pub data Sizes : Type 0 where
   Uniform : ℕ → Sizes
   InFile : List ℕ → Sizes
 
--- the file of the mesh, the sizes of edges, how many rounds are run, how many collapse passes and swap passes each has, and the front of the names of what is stored
+-- how many parts a mesh is handed out to, the file that tells the part of each tetrahedron, and the file of the picks by which letters are taken
+pub record Division : Type 0 where
+  pub parts : ℕ
+  pub partition : List ℕ
+  pub schedule : List ℕ
+
+-- the file of the mesh, the sizes of edges, the division into parts if there is one, how many rounds are run, how many collapse passes and swap passes each has, and the front of the names of what is stored
 pub record Job : Type 0 where
   pub mesh : List ℕ
   pub sizes : Sizes
+  pub division : Option Division
   pub rounds : ℕ
   pub collapses : ℕ
   pub swaps : ℕ
@@ -76,14 +83,39 @@ size_file_of words = do
 unfoldable pub sizes_of : List (List ℕ) → Option (Sizes × List (List ℕ))
 sizes_of words = or_else (uniform_of words) (size_file_of words)
 
--- the words --plain --mesh M --uniform H --rounds N --collapse C --swap W --out X, in this order, or with --size S in place of --uniform H
-unfoldable pub job_of : List (List ℕ) → Option Job
-job_of words = do
-  options ← after_flag (codes "--plain") words
-  mesh ← value_of (codes "--mesh") options
-  sizes ← sizes_of mesh.1
-  rounds ← number_of (codes "--rounds") 0 30 sizes.1
+-- --parts P --partition F --schedule Q, in this order
+unfoldable pub division_of : List (List ℕ) → Option (Division × List (List ℕ))
+division_of words = do
+  parts ← number_of (codes "--parts") 1 64 words
+  partition ← value_of (codes "--partition") parts.1
+  schedule ← value_of (codes "--schedule") partition.1
+  Some (record { parts = parts.0; partition = partition.0; schedule = schedule.0 }, schedule.1)
+
+-- what stands behind the mesh, the sizes and the division: --rounds N --collapse C --swap W --out X, with at most so many rounds and passes
+unfoldable pub job_with : List ℕ → Sizes → Option Division → (rounds passes : ℕ) → List (List ℕ) → Option Job
+job_with mesh sizes division most_rounds most_passes words = do
+  rounds ← number_of (codes "--rounds") 0 most_rounds words
   collapse ← number_of (codes "--collapse") 0 most_passes rounds.1
   swap ← number_of (codes "--swap") 0 most_passes collapse.1
   out ← value_of (codes "--out") swap.1
-  if length out.1 == 0 then Some (record { mesh = mesh.0; sizes = sizes.0; rounds = rounds.0; collapses = collapse.0; swaps = swap.0; out = out.0 }) else None
+  if length out.1 == 0 then Some (record { mesh = mesh; sizes = sizes; division = division; rounds = rounds.0; collapses = collapse.0; swaps = swap.0; out = out.0 }) else None
+
+-- the words --plain --mesh M --uniform H --rounds N --collapse C --swap W --out X, in this order, or with --size S in place of --uniform H
+unfoldable pub plain_job_of : List (List ℕ) → Option Job
+plain_job_of words = do
+  options ← after_flag (codes "--plain") words
+  mesh ← value_of (codes "--mesh") options
+  sizes ← sizes_of mesh.1
+  job_with mesh.0 sizes.0 None 30 most_passes sizes.1
+
+-- the words --mesh M --uniform H --parts P --partition F --schedule Q --rounds 0 --collapse 0 --swap 0 --out X, likewise. Parts run no round but the first of all yet
+unfoldable pub divided_job_of : List (List ℕ) → Option Job
+divided_job_of words = do
+  mesh ← value_of (codes "--mesh") words
+  sizes ← sizes_of mesh.1
+  division ← division_of sizes.1
+  job_with mesh.0 sizes.0 (Some division.0) 0 0 division.1
+
+-- the job that the words ask for
+unfoldable pub job_of : List (List ℕ) → Option Job
+job_of words = or_else (plain_job_of words) (divided_job_of words)

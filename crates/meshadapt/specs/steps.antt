@@ -1,3 +1,5 @@
 -- What the steps of the code mean. No public contract names it, and it is no promise.
+pub mod Asking
 pub mod Fetching
 pub mod Running
+pub mod Storing

@@ -3,6 +3,7 @@ ghost use Rattle.std.specs.Prelude.{◌≡◌};
 ghost use Rattle.meshadapt.specs.declared.halt.Halt.TheVariants as halt;
 
 use crate::status::{FileKind, Refusal};
+use world_run::RunFault;
 
 /// Why a run ends before all is done. Its last line isn't put yet.
 #[derive(Debug, Drop)]
@@ -16,6 +17,8 @@ pub enum Halt {
     Unstored(String),
     /// The put of a line failed.
     Unput,
+    /// The run of parts ended early. It isn't for want of memory.
+    Parts(RunFault),
     Memory,
 }
 

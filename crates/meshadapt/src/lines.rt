@@ -1,16 +1,17 @@
 // The lines that a run prints, and the name of what it stores.
-ghost use Rattle.std.specs.Prelude.{◌≡◌, ◌++◌, IfOk, codes, length, string_bytes};
+ghost use Rattle.std.specs.Prelude.{◌≡◌, ◌∷◌, ◌++◌, [], IfOk, codes, length, string_bytes};
+ghost use Rattle.std.specs.Fmt.{decimal};
 ghost use Rattle.msh_read.specs.declared.fault.MshFault.TheVariants.{At};
 ghost use Rattle.msh_write.specs.Text.{nodes_of};
-ghost use Rattle.meshadapt.specs.declared.status.Refusal.TheVariants.{Accept, Mesh, Rounds, Size};
-ghost use Rattle.meshadapt.specs.Printed.{fault_text, file_name, kind_text, mesh_line, read_fault_line, refused_line, round_line, sizes_text, too_many_line, usage_line, write_fault_line};
-ghost use Rattle.meshadapt.specs.steps.Running.{asked};
+ghost use Rattle.meshadapt.specs.declared.status.Refusal.TheVariants.{Accept, Mesh, Missing, Rounds, TooLong};
+ghost use Rattle.meshadapt.specs.Printed.{bad_letter_line, fault_text, file_name, file_text, job_text, kind_text, link_fault_line, mesh_line, parts_done_line, read_fault_line, refused_line, round_line, starved_line, too_many_line, usage_line, write_fault_line};
+ghost use Rattle.meshadapt.specs.steps.Asking.{asked};
 
 use crate::measures::{tagged_count, worst};
 use crate::status::{FileKind, Refusal};
 use crate::words::{Job, Sizes};
 use job_files::JobFault;
-use ma_cells::Batch;
+use ma_cells::{Batch, Label};
 use ma_geom::Memory;
 use mesh_check::MeshFault;
 use msh_read::{MshFault, MshKind};
@@ -60,10 +61,12 @@ pub fn file_name<'a>(job: &Job<'a>, file: FileKind) -> &'a str
 {
     match file {
         FileKind::MeshFile => job.mesh,
+        FileKind::PartitionFile => job.division.map_or("", |division| division.partition),
         FileKind::SizeFile => match job.sizes {
             Sizes::Uniform(_) => "",
             Sizes::InFile(name) => name,
         },
+        FileKind::ScheduleFile => job.division.map_or("", |division| division.schedule),
     }
 }
 
@@ -72,6 +75,46 @@ pub fn mesh_name(alloc: Global, out: &str) -> Result<String, Memory>
     ensures { IfOk result (λ name. string_bytes name ≡ out.now ++ codes ".msh") }
 {
     Ok(format!(in alloc; "{out}.msh")?)
+}
+
+/// The name under which what a part sees is stored.
+#[tactic(auto, unfolding(crate::specs::Printed::part_name))]
+pub fn part_name(alloc: Global, out: &str, part: Label) -> Result<String, Memory>
+    ensures { IfOk result (λ name. string_bytes name ≡ out.now ++ codes ".p" ++ decimal part ++ codes ".msh") }
+{
+    Ok(format!(in alloc; "{out}.p{part}.msh")?)
+}
+
+/// The last line of a run over so many parts, which took so many letters.
+#[tactic(auto, unfolding(crate::specs::Printed::parts_done_line))]
+pub fn parts_done_line(alloc: Global, parts: u8, letters: u64) -> Result<String, Memory>
+    ensures { IfOk result (λ line. string_bytes line ≡ parts_done_line parts letters) }
+{
+    Ok(format!(in alloc; "done: parts {parts} letters {letters}\n")?)
+}
+
+/// The line that tells that the carrier failed.
+pub fn link_fault_line(alloc: Global) -> Result<String, Memory>
+    ensures { IfOk result (λ line. string_bytes line ≡ link_fault_line) }
+{
+    Ok(String::from_str(alloc, "link fault\n")?)
+}
+
+/// The line that tells of how many bytes a letter was that is refused.
+#[tactic(auto, unfolding(crate::specs::Printed::bad_letter_line))]
+pub fn bad_letter_line(alloc: Global, bytes: &[u8]) -> Result<String, Memory>
+    ensures { IfOk result (λ line. string_bytes line ≡ bad_letter_line bytes.now) }
+{
+    let count = bytes.len();
+    Ok(format!(in alloc; "bad letter: {count} bytes\n")?)
+}
+
+/// The line that tells which part waits in which phase, and no letter is left.
+#[tactic(auto, unfolding(crate::specs::Printed::starved_line))]
+pub fn starved_line(alloc: Global, part: Label, phase: u32) -> Result<String, Memory>
+    ensures { IfOk result (λ line. string_bytes line ≡ starved_line part phase) }
+{
+    Ok(format!(in alloc; "starved: part {part} phase {phase}\n")?)
 }
 
 /// The line that tells which fetch failed.
@@ -162,29 +205,44 @@ fn unaccepted_line(alloc: Global, fault: MeshFault) -> Result<String, Memory>
     Ok(format!(in alloc; "refused: mesh: {fault}\n")?)
 }
 
-/// What is told of a size file that can't be read.
-fn sizes_text(alloc: Global, fault: JobFault) -> Result<String, Memory>
-    ensures { IfOk result (λ text. string_bytes text ≡ sizes_text fault) }
+/// The kind of a file, in a word.
+fn file_text(file: FileKind) -> &'static str
+    ensures { result.now ≡ file_text file }
 {
+    match file {
+        FileKind::MeshFile => "mesh",
+        FileKind::PartitionFile => "partition",
+        FileKind::SizeFile => "size",
+        FileKind::ScheduleFile => "schedule",
+    }
+}
+
+/// What is told of a file of a job that can't be read.
+fn job_text(alloc: Global, file: FileKind, fault: JobFault) -> Result<String, Memory>
+    ensures { IfOk result (λ text. string_bytes text ≡ job_text file fault) }
+{
+    let file = file_text(file);
     match fault {
-        JobFault::BadLine(line) => Ok(format!(in alloc; "size line {line}: bad line")?),
-        JobFault::SizeOutOfRange(line) => Ok(format!(in alloc; "size line {line}: out of range")?),
-        JobFault::TooManyBoxes(line) => Ok(format!(in alloc; "size line {line}: too many boxes")?),
-        JobFault::PartTooBig(line) => Ok(format!(in alloc; "size line {line}: part too big")?),
+        JobFault::BadLine(line) => Ok(format!(in alloc; "{file} line {line}: bad line")?),
+        JobFault::SizeOutOfRange(line) => {
+            Ok(format!(in alloc; "{file} line {line}: out of range")?)
+        }
+        JobFault::TooManyBoxes(line) => {
+            Ok(format!(in alloc; "{file} line {line}: too many boxes")?)
+        }
+        JobFault::PartTooBig(line) => Ok(format!(in alloc; "{file} line {line}: part too big")?),
         JobFault::WrongCount(have, want) => {
-            Ok(format!(in alloc; "size: {have} lines for {want} nodes")?)
+            Ok(format!(in alloc; "{file}: {have} lines for {want} tetrahedra")?)
         }
         JobFault::Memory => Ok(String::from_str(alloc, "memory")?),
     }
 }
 
-/// The line that tells why a size file can't be read.
-#[tactic(auto, unfolding(crate::specs::Printed::refused_line))]
-fn unsized_line(alloc: Global, fault: JobFault) -> Result<String, Memory>
-    ensures { IfOk result (λ line. string_bytes line ≡ refused_line (Size fault)) }
+/// The line that tells why a file of a job is refused, where these words tell it.
+fn told_line(alloc: Global, text: &str) -> Result<String, Memory>
+    ensures { IfOk result (λ line. string_bytes line ≡ codes "refused: " ++ text.now ++ 10 ∷ []) }
 {
-    let fault = sizes_text(alloc, fault)?;
-    Ok(format!(in alloc; "refused: {fault}\n")?)
+    Ok(format!(in alloc; "refused: {text}\n")?)
 }
 
 /// The line that tells that the grid is too fine for the rounds.
@@ -195,31 +253,46 @@ fn rounds_line(alloc: Global, rounds: u32, grid: u32) -> Result<String, Memory>
     Ok(format!(in alloc; "refused: rounds {rounds} grid {grid}\n")?)
 }
 
+/// The line that tells that a file is missing.
+#[tactic(auto, unfolding(crate::specs::Printed::refused_line))]
+fn missing_line(alloc: Global, file: FileKind) -> Result<String, Memory>
+    ensures { IfOk result (λ line. string_bytes line ≡ refused_line (Missing file)) }
+{
+    let file = file_text(file);
+    Ok(format!(in alloc; "refused: {file}: missing\n")?)
+}
+
+/// The line that tells that a file is too long.
+#[tactic(auto, unfolding(crate::specs::Printed::refused_line))]
+fn too_long_line(alloc: Global, file: FileKind) -> Result<String, Memory>
+    ensures { IfOk result (λ line. string_bytes line ≡ refused_line (TooLong file)) }
+{
+    let file = file_text(file);
+    Ok(format!(in alloc; "refused: {file}: too long\n")?)
+}
+
 /// The line that tells why a job is refused.
 #[tactic(auto, unfolding(crate::specs::Printed::refused_line))]
 pub fn refused_line(alloc: Global, refusal: Refusal) -> Result<String, Memory>
     ensures { IfOk result (λ line. string_bytes line ≡ refused_line refusal) }
 {
     match refusal {
-        Refusal::Missing(FileKind::MeshFile) => Ok(String::from_str(
-            alloc,
-            "refused: mesh: missing\n",
-        )?),
-        Refusal::TooLong(FileKind::MeshFile) => Ok(String::from_str(
-            alloc,
-            "refused: mesh: too long\n",
-        )?),
-        Refusal::Missing(FileKind::SizeFile) => Ok(String::from_str(
-            alloc,
-            "refused: size: missing\n",
-        )?),
-        Refusal::TooLong(FileKind::SizeFile) => Ok(String::from_str(
-            alloc,
-            "refused: size: too long\n",
-        )?),
+        Refusal::Missing(file) => missing_line(alloc, file),
+        Refusal::TooLong(file) => too_long_line(alloc, file),
         Refusal::Mesh(fault) => unread_line(alloc, fault),
-        Refusal::Size(fault) => unsized_line(alloc, fault),
         Refusal::Accept(fault) => unaccepted_line(alloc, fault),
+        Refusal::Partition(fault) => {
+            let text = job_text(alloc, FileKind::PartitionFile, fault)?;
+            told_line(alloc, text.as_str())
+        }
+        Refusal::Size(fault) => {
+            let text = job_text(alloc, FileKind::SizeFile, fault)?;
+            told_line(alloc, text.as_str())
+        }
+        Refusal::Schedule(fault) => {
+            let text = job_text(alloc, FileKind::ScheduleFile, fault)?;
+            told_line(alloc, text.as_str())
+        }
         Refusal::Rounds { rounds, grid } => rounds_line(alloc, rounds, grid),
     }
 }

@@ -7,6 +7,7 @@ mod halt;
 mod laws;
 mod lines;
 mod measures;
+mod parts;
 mod putting;
 mod rounds;
 mod status;
@@ -16,6 +17,7 @@ mod tests;
 mod top;
 mod words;
 
+use carrier::QueueCarrier;
 use ma_io::{DiskDepot, StdSink};
 use std::process::ExitCode;
 use std::rt::Env;
@@ -38,7 +40,9 @@ fn main(rt: HostRuntime) -> ExitCode {
         Ok(words) => {
             let mut depot = DiskDepot::new(&rt);
             let mut out = StdSink::new(&rt);
-            let status = meshadapt(rt.alloc(), words.as_slice(), &mut depot, &mut out);
+            let alloc = rt.alloc();
+            let mut carrier = QueueCarrier::new(alloc, Vec::new(alloc), Vec::new(alloc));
+            let status = meshadapt(alloc, words.as_slice(), &mut depot, &mut carrier, &mut out);
             ExitCode::from(status.code())
         }
         // The system's words are no text, or there is no memory for them.

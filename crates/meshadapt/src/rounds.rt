@@ -2,9 +2,11 @@
 ghost use Rattle.std.specs.Prelude.{◌≡◌, ◌≤◌, IfOk, false};
 ghost use Rattle.msh_write.specs.Text.{nodes_of};
 ghost use Rattle.one_mesh.specs.Adaptation.{most_passes};
+ghost use Rattle.one_mesh.specs.Holding.{set_of};
 ghost use Rattle.meshadapt.specs.Printed.{mesh_line, round_line};
 ghost use Rattle.meshadapt.specs.steps.Fetching.{inputs_of};
-ghost use Rattle.meshadapt.specs.steps.Running.{Begins, PutsLine, RunsRound, RunsRounds, asked};
+ghost use Rattle.meshadapt.specs.steps.Asking.{asked};
+ghost use Rattle.meshadapt.specs.steps.Running.{Begins, PutsLine, RunsRound, RunsRounds};
 
 use crate::fetching::Fetched;
 use crate::halt::Halt;
@@ -21,7 +23,7 @@ use std::alloc::Global;
 
 /// Puts the line of a mesh before its rounds, of whose file so many marks were loose. The answer is the
 /// nodes of the mesh, here and below.
-fn put_mesh<S: Sink>(
+pub fn put_mesh<S: Sink>(
     alloc: Global,
     mesh: &Batch,
     loose: u64,
@@ -110,17 +112,18 @@ fn run_rounds<S: Sink>(
 pub fn adapt_mesh<S: Sink>(
     alloc: Global,
     job: &Job,
-    fetched: &mut Fetched,
+    fetched: &Fetched,
+    mesh: &mut OneMesh,
     out: &mut S,
 ) -> Result<Ascending<Place>, Halt>
-    requires spent { fetched.old.mesh.spent ≡ false }
+    requires mesh { mesh.old ≡ record { mesh = set_of fetched.now.accepted.mesh; spent = false } }
     requires collapses { job.now.collapses ≤ most_passes }
     requires swaps { job.now.swaps ≤ most_passes }
-    ensures begins { Begins result (asked job.now) (inputs_of fetched.old) fetched.new.mesh (S.received out.old) (S.received out.new) }
-    ensures names { fetched.new.names.items ≡ fetched.old.names.items }
-    ensures nodes { IfOk result (λ nodes. nodes ≡ nodes_of fetched.new.mesh.mesh.tets) }
+    ensures begins { Begins result (asked job.now) (inputs_of fetched.now) mesh.new (S.received out.old) (S.received out.new) }
+    ensures nodes { IfOk result (λ nodes. nodes ≡ nodes_of mesh.new.mesh.tets) }
 {
-    let before = put_mesh(alloc, fetched.mesh.batch(), fetched.loose, out)?;
-    let nodes = run_rounds(alloc, &fetched.field, job, before, &mut fetched.mesh, out)?;
+    let loose = fetched.accepted.mesh.loose();
+    let before = put_mesh(alloc, mesh.batch(), loose, out)?;
+    let nodes = run_rounds(alloc, &fetched.field, job, before, mesh, out)?;
     Ok(nodes)
 }

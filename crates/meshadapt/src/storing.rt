@@ -12,7 +12,7 @@ use msh_read::Name;
 use msh_write::write_union_with;
 use std::alloc::Global;
 
-fn store_file<D: Depot>(depot: &mut D, name: String, bytes: &[u8]) -> Result<(), Halt>
+pub fn store_file<D: Depot>(depot: &mut D, name: String, bytes: &[u8]) -> Result<(), Halt>
     ensures { StoresOne result (string_bytes name) bytes.now (D.held depot.old) (D.held depot.new) }
 {
     match depot.store(name.as_str(), bytes) {

@@ -1,6 +1,9 @@
 // Whole runs over files in memory.
+mod parts;
+
 use crate::status::Status;
 use crate::top::meshadapt;
+use carrier::QueueCarrier;
 use ma_io::{MemDepot, MemSink, names_differ};
 use std::alloc::Global;
 use std::process::Abort;
@@ -62,6 +65,10 @@ fn depot_of(
     files.push(named(alloc, "m.msh", text)?)?;
     files.push(named(alloc, "s.size", SIZES)?)?;
     files.push(named(alloc, "zero.size", "default 4\n\nbox 0 0 0 1 1 1 0\n")?)?;
+    files.push(named(alloc, "one.part", "0\n")?)?;
+    files.push(named(alloc, "two.part", "0\n0\n")?)?;
+    files.push(named(alloc, "big.part", "1\n")?)?;
+    files.push(named(alloc, "bad.schedule", "0\nx\n")?)?;
     assert!(rt; names_differ(files.as_slice()));
     let fetches = Vec::from_slice(alloc, fetches)?;
     let stores = Vec::from_slice(alloc, stores)?;
@@ -79,7 +86,8 @@ fn run(
     let words = words_in(alloc, words)?;
     let mut depot = depot_of(rt, alloc, text, fails.0, fails.1)?;
     let mut sink = MemSink::new(alloc, Vec::from_slice(alloc, fails.2)?);
-    let status = meshadapt(alloc, words.as_slice(), &mut depot, &mut sink);
+    let mut carrier = QueueCarrier::new(alloc, Vec::new(alloc), Vec::new(alloc));
+    let status = meshadapt(alloc, words.as_slice(), &mut depot, &mut carrier, &mut sink);
     Ok(Left {
         status,
         depot,
@@ -536,6 +544,44 @@ fn a_size_file_is_refused_behind_the_mesh_and_before_the_rounds(
         )?
     );
     assert!(rt; is_unsized(&rt, rt.alloc(), "s.size", MESH, "rounds 4 grid 3")?);
+    Ok(())
+}
+
+/// Words of a run over parts of another form, those of a run in each line.
+const OTHER_PARTS: &str =
+    "--mesh m.msh --uniform 4 --parts 0 --partition one.part --schedule q --rounds 0 --collapse 0 --swap 0 --out x\n--mesh m.msh --uniform 4 --parts 65 --partition one.part --schedule q --rounds 0 --collapse 0 --swap 0 --out x\n--mesh m.msh --uniform 4 --parts 1 --schedule q --partition one.part --rounds 0 --collapse 0 --swap 0 --out x\n--mesh m.msh --uniform 4 --parts 1 --partition one.part --schedule q --rounds 1 --collapse 0 --swap 0 --out x\n";
+
+#[test]
+fn other_words_over_parts_are_answered_with_usage(rt: HostRuntime) -> Result<(), Fail> {
+    let none: Fails<'_> = (&[], &[], &[]);
+    for words in OTHER_PARTS.lines() {
+        assert!(rt;
+            leaves(&rt, rt.alloc(), words, MESH, none, 1, "usage\n", "")?,
+            "{words}"
+        );
+    }
+    Ok(())
+}
+
+/// Whether a run over one part with these files is refused for this.
+fn is_undivided(rt: &impl Abort, alloc: Global, files: &str, reason: &str) -> Result<bool, Fail> {
+    let words = format!(in alloc; "--mesh m.msh {files} --rounds 0 --collapse 0 --swap 0 --out x")?;
+    is_refused(rt, alloc, words.as_str(), MESH, reason)
+}
+
+/// Sizes, a partition and a schedule of one part, and what they are refused for, line by line.
+const DIVISIONS: &str =
+    "--uniform 4 --parts 1 --partition none --schedule none;partition: missing\n--uniform 4 --parts 1 --partition two.part --schedule none;partition: 2 lines for 1 tetrahedra\n--size none --parts 1 --partition big.part --schedule none;partition line 1: part too big\n--size zero.size --parts 1 --partition one.part --schedule none;size line 3: out of range\n--uniform 4 --parts 1 --partition one.part --schedule none;schedule: missing\n--uniform 4 --parts 1 --partition one.part --schedule bad.schedule;schedule line 2: bad line\n";
+
+#[test]
+fn a_partition_is_refused_before_the_sizes_and_a_schedule_behind_them(
+    rt: HostRuntime,
+) -> Result<(), Fail> {
+    for line in DIVISIONS.lines() {
+        if let Some((files, reason)) = line.split_once(';') {
+            assert!(rt; is_undivided(&rt, rt.alloc(), files, reason)?, "{line}");
+        }
+    }
     Ok(())
 }
 

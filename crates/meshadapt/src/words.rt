@@ -2,10 +2,16 @@
 ghost use Rattle.std.specs.Prelude.{◌≡◌, ◌≤◌, ◌^◌, IfSome, map, string_bytes};
 ghost use Rattle.std.specs.Option.{option_map};
 ghost use Rattle.one_mesh.specs.Adaptation.{most_passes};
-ghost use Rattle.meshadapt.specs.Words.{after_flag, in_range, job_of, number_in, number_of, size_file_of, sizes_of, uniform_of, value_of};
-ghost use Rattle.meshadapt.specs.steps.Running.{HasSize, asked, sizes_asked};
+ghost use Rattle.meshadapt.specs.Words.{after_flag, divided_job_of, division_of, in_range, job_of, job_with, number_in, number_of, plain_job_of, size_file_of, sizes_of, uniform_of, value_of};
+ghost use Rattle.meshadapt.specs.steps.Asking.{HasParts, HasSize, IsInRange, asked, division_asked, sizes_asked};
 
 use ma_text::magnitude;
+
+/// How many parts a mesh may be handed out to.
+const MOST_PARTS: u32 = 64;
+
+/// How many rounds may be run.
+const MOST_ROUNDS: u32 = 30;
 
 /// How many passes of a kind a round may have.
 const MOST_PASSES: u32 = 16;
@@ -19,6 +25,17 @@ pub enum Sizes<'a> {
     InFile(&'a str),
 }
 
+/// How a mesh is handed out to parts.
+#[derive(Clone, Copy, Debug)]
+pub struct Division<'a> {
+    /// How many parts there are, from 1 to 64.
+    pub parts: u8,
+    /// The file that tells the part of each tetrahedron.
+    pub partition: &'a str,
+    /// The file of the picks by which letters are taken.
+    pub schedule: &'a str,
+}
+
 /// What the words ask for.
 #[derive(Clone, Copy, Debug)]
 pub struct Job<'a> {
@@ -26,6 +43,8 @@ pub struct Job<'a> {
     pub mesh: &'a str,
     /// The sizes of edges.
     pub sizes: Sizes<'a>,
+    /// The division into parts, if there is one.
+    pub division: Option<Division<'a>>,
     /// How many rounds are run, at most 30.
     pub rounds: u32,
     /// How many collapse passes a round has, at most 16.
@@ -128,24 +147,51 @@ fn sizes_of<'a>(words: &'a [String]) -> Option<(Sizes<'a>, &'a [String])>
     }
 }
 
-/// The job that the words ask for. None where they aren't of the one form, in its order.
-#[tactic(auto, unfolding(crate::specs::Words::job_of))]
-pub fn job_of<'a>(words: &'a [String]) -> Option<Job<'a>>
-    ensures value { option_map (λ job. asked job) result ≡ job_of (map string_bytes words.now) }
-    ensures sizes { IfSome result (λ job. HasSize job.sizes) }
-    ensures passes { IfSome result (λ job. (job.collapses ≤ most_passes) × (job.swaps ≤ most_passes)) }
+/// The division into parts, and the words behind it, if it comes first.
+#[tactic(auto, unfolding(crate::specs::Words::division_of))]
+fn division_of<'a>(words: &'a [String]) -> Option<(Division<'a>, &'a [String])>
+    ensures value { option_map (λ x. (division_asked x.0, map string_bytes x.1.now)) result ≡ division_of (map string_bytes words.now) }
+    ensures range { IfSome result (λ x. HasParts x.0) }
 {
-    let options = after_flag("--plain", words)?;
-    let (mesh, options) = value_of("--mesh", options)?;
-    let (sizes, options) = sizes_of(options)?;
-    let (rounds, options) = number_of("--rounds", 0, 30, options)?;
-    let (collapses, options) = number_of("--collapse", 0, MOST_PASSES, options)?;
-    let (swaps, options) = number_of("--swap", 0, MOST_PASSES, options)?;
+    let (parts, rest) = number_of("--parts", 1, MOST_PARTS, words)?;
+    let (partition, rest) = value_of("--partition", rest)?;
+    let (schedule, rest) = value_of("--schedule", rest)?;
+    let parts = parts as u8;
+    let division = Division {
+        parts,
+        partition,
+        schedule,
+    };
+    Some((division, rest))
+}
+
+/// The job with what stands behind the mesh, the sizes and the division, with at most so many rounds
+/// and passes.
+#[tactic(auto, unfolding(crate::specs::Words::job_with))]
+fn job_with<'a>(
+    mesh: &'a str,
+    sizes: Sizes<'a>,
+    division: Option<Division<'a>>,
+    most: (u32, u32),
+    words: &'a [String],
+) -> Option<Job<'a>>
+    requires rounds { most.0 ≤ 30 }
+    requires passes { most.1 ≤ most_passes }
+    ensures value { option_map (λ job. asked job) result ≡ job_with mesh.now (sizes_asked sizes.entry) (option_map division_asked division.entry) most.0 most.1 (map string_bytes words.now) }
+    ensures sizes { IfSome result (λ job. job.sizes ≡ sizes.entry) }
+    ensures division { IfSome result (λ job. job.division ≡ division.entry) }
+    ensures rounds { IfSome result (λ job. job.rounds ≤ most.0) }
+    ensures passes { IfSome result (λ job. (job.collapses ≤ most.1) × (job.swaps ≤ most.1)) }
+{
+    let (rounds, options) = number_of("--rounds", 0, most.0, words)?;
+    let (collapses, options) = number_of("--collapse", 0, most.1, options)?;
+    let (swaps, options) = number_of("--swap", 0, most.1, options)?;
     let (out, options) = value_of("--out", options)?;
     if options.is_empty() {
         Some(Job {
             mesh,
             sizes,
+            division,
             rounds,
             collapses,
             swaps,
@@ -153,5 +199,41 @@ pub fn job_of<'a>(words: &'a [String]) -> Option<Job<'a>>
         })
     } else {
         None
+    }
+}
+
+/// The job of a mesh that isn't handed out.
+#[tactic(auto, unfolding(crate::specs::Words::plain_job_of))]
+fn plain_job_of<'a>(words: &'a [String]) -> Option<Job<'a>>
+    ensures value { option_map (λ job. asked job) result ≡ plain_job_of (map string_bytes words.now) }
+    ensures right { IfSome result (λ job. IsInRange job) }
+{
+    let options = after_flag("--plain", words)?;
+    let (mesh, options) = value_of("--mesh", options)?;
+    let (sizes, options) = sizes_of(options)?;
+    job_with(mesh, sizes, None, (MOST_ROUNDS, MOST_PASSES), options)
+}
+
+/// The job of a mesh that is handed out to parts.
+#[tactic(auto, unfolding(crate::specs::Words::divided_job_of))]
+fn divided_job_of<'a>(words: &'a [String]) -> Option<Job<'a>>
+    ensures value { option_map (λ job. asked job) result ≡ divided_job_of (map string_bytes words.now) }
+    ensures right { IfSome result (λ job. IsInRange job) }
+{
+    let (mesh, options) = value_of("--mesh", words)?;
+    let (sizes, options) = sizes_of(options)?;
+    let (division, options) = division_of(options)?;
+    job_with(mesh, sizes, Some(division), (0, 0), options)
+}
+
+/// The job that the words ask for. None where they are of neither form, in its order.
+#[tactic(auto, unfolding(crate::specs::Words::job_of))]
+pub fn job_of<'a>(words: &'a [String]) -> Option<Job<'a>>
+    ensures value { option_map (λ job. asked job) result ≡ job_of (map string_bytes words.now) }
+    ensures right { IfSome result (λ job. IsInRange job) }
+{
+    match plain_job_of(words) {
+        Some(job) => Some(job),
+        None => divided_job_of(words),
     }
 }

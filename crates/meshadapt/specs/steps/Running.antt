@@ -1,5 +1,5 @@
 -- What the steps of a run leave. No public contract names it, and it is no promise.
-use Rattle.std.specs.Prelude.{◌≡◌, ℕ, ◌+◌, ◌-◌, ◌≤◌, ◌⊎◌, true, false, List, [], ◌∷◌, ◌++◌, Some, Result, Ok, Err, IfSome, string_bytes}
+use Rattle.std.specs.Prelude.{◌≡◌, ℕ, ◌+◌, ◌-◌, ◌≤◌, ◌⊎◌, true, false, List, [], ◌∷◌, ◌++◌, None, Some, Result, Ok, Err, IfSome, string_bytes}
 use Rattle.std.specs.FinMap.{insert}
 use Rattle.ma_cells.specs.declared.batch.Batch.{Batch}
 use Rattle.ma_io.specs.Count.{Rose}
@@ -11,16 +11,17 @@ use Rattle.one_mesh.specs.Holding.{Holding}
 use Rattle.meshadapt.specs.declared.halt.Halt.{Halt}
 use Rattle.meshadapt.specs.declared.halt.Halt.TheVariants as halt
 use Rattle.meshadapt.specs.declared.status.Status.{Status}
-use Rattle.meshadapt.specs.declared.status.Status.TheVariants.{ReadFault, WriteFault, Refused, TooMany, Memory}
-use Rattle.meshadapt.specs.declared.words.Job.{Job as Words}
-use Rattle.meshadapt.specs.declared.words.Sizes.{Sizes as SizeWords}
-use Rattle.meshadapt.specs.declared.words.Sizes.TheVariants as size_words
-use Rattle.size_marks.specs.Field.{is_size}
-use Rattle.meshadapt.specs.Acts.{Act, PutLine, StoreFile, acts, begun, bytes_of, outputs, round_acts, rounds_among}
-use Rattle.meshadapt.specs.Outcome.{ComesTo, IsVerdict, LeavesDone, LeavesMemory, LeavesUnput, Puts, PutsFront, PutsLast, RefusalCounted, Seen, StoresFront}
-use Rattle.meshadapt.specs.Printed.{file_name, is_of_job, read_fault_line, refused_line, round_line, too_many_line, write_fault_line}
-use Rattle.meshadapt.specs.Verdict.{Inputs, plan_of}
-use Rattle.meshadapt.specs.Words.{Job, Sizes, Uniform, InFile}
+use Rattle.meshadapt.specs.declared.status.Status.TheVariants.{ReadFault, WriteFault, Refused, TooMany, Memory, LinkFault, BadLetter, Starved}
+use Rattle.carrier.specs.Carried.{Carried}
+use Rattle.world_run.specs.Drawn.{SeeMesh}
+use Rattle.world_run.specs.Told.{HasCause, WorldState}
+use Rattle.world_run.specs.declared.fault.RunFault.{RunFault}
+use Rattle.world_run.specs.declared.fault.RunFault.TheVariants as run
+use Rattle.meshadapt.specs.Acts.{Act, PutLine, StoreFile, begun, bytes_of, outputs, round_acts, rounds_among, whole}
+use Rattle.meshadapt.specs.Outcome.{AllArrive, AreAll, ComesOf, ComesTo, IsVerdict, LeavesDone, LeavesMemory, LeavesUnput, Puts, PutsFront, PutsLast, RefusalCounted, Seen, StoresFront, seen}
+use Rattle.meshadapt.specs.Printed.{bad_letter_line, file_name, is_of_job, link_fault_line, read_fault_line, refused_line, round_line, starved_line, too_many_line, write_fault_line}
+use Rattle.meshadapt.specs.Verdict.{Handout, Inputs, plan_of, verdict}
+use Rattle.meshadapt.specs.Words.{Job}
 
 -- a line was put, or a front of it
 abbrev pub PutsLine : {X : Type 0} → Result X Halt → List ℕ → Received → Received → Type 0
@@ -30,6 +31,7 @@ PutsLine (Err (halt.Refused refusal)) line s t = ⊥
 PutsLine (Err (halt.TooMany round stage count)) line s t = ⊥
 PutsLine (Err (halt.Unstored name)) line s t = ⊥
 PutsLine (Err halt.Unput) line s t = PutsFront [] line s t
+PutsLine (Err (halt.Parts fault)) line s t = ⊥
 PutsLine (Err halt.Memory) line s t = Unit {0}
 
 -- the round of this number was run and its line put, or why not
@@ -41,6 +43,7 @@ RunsRound (Err (halt.Refused refusal)) round plan mesh new s t = ⊥
 RunsRound (Err (halt.TooMany r stage count)) round plan mesh new s t = (r ≡ round) × IsFirstStagePast plan mesh stage count × (t ≡ s)
 RunsRound (Err (halt.Unstored name)) round plan mesh new s t = ⊥
 RunsRound (Err halt.Unput) round plan mesh new s t = RoundStaysWithin plan mesh × PutsFront [] (round_line round (staged plan (last_stage plan) mesh)) s t
+RunsRound (Err (halt.Parts fault)) round plan mesh new s t = ⊥
 RunsRound (Err halt.Memory) round plan mesh new s t = Unit {0}
 
 -- so many rounds were run, all within the limit, and their lines put
@@ -63,14 +66,15 @@ RunsRounds (Err (halt.Refused refusal)) plan rounds mesh new s t = ⊥
 RunsRounds (Err (halt.TooMany round stage count)) plan rounds mesh new s t = IsFirstPast plan rounds mesh round stage count × Puts (bytes_of (round_acts plan (round - 1) mesh)) s t
 RunsRounds (Err (halt.Unstored name)) plan rounds mesh new s t = ⊥
 RunsRounds (Err halt.Unput) plan rounds mesh new s t = HaltsRounds plan rounds mesh s t
+RunsRounds (Err (halt.Parts fault)) plan rounds mesh new s t = ⊥
 RunsRounds (Err halt.Memory) plan rounds mesh new s t = Unit {0}
 
--- a line before the file could not be put
+-- a line before the files could not be put
 pub record HaltsBegun (job : Job) (inputs : Inputs) (s t : Received) : Type 0 where
   pub done : List Act
   pub line : List ℕ
   pub rest : List Act
-  pub acts_are : acts job inputs ≡ done ++ PutLine line ∷ rest
+  pub acts_are : begun job.rounds job inputs ≡ done ++ PutLine line ∷ rest
   pub within : StaysWithin (plan_of job inputs) (rounds_among job (done ++ PutLine line ∷ [])) inputs.mesh
   pub none_stored : outputs done ≡ []
   pub front : PutsFront (bytes_of done) line s t
@@ -85,26 +89,29 @@ Begins (Err (halt.TooMany round stage count)) job inputs new s t =
     IsFirstPast (plan_of job inputs) job.rounds inputs.mesh round stage count × Puts (bytes_of (begun (round - 1) job inputs)) s t
 Begins (Err (halt.Unstored name)) job inputs new s t = ⊥
 Begins (Err halt.Unput) job inputs new s t = HaltsBegun job inputs s t
+Begins (Err (halt.Parts fault)) job inputs new s t = ⊥
 Begins (Err halt.Memory) job inputs new s t = Unit {0}
 
 -- bytes were stored under a name, or why not
 abbrev pub StoresOne : {X : Type 0} → Result X Halt → List ℕ → List ℕ → Held → Held → Type 0
-StoresOne (Ok _) name bytes s t = IfSome s.files (λ files. t.files ≡ Some (insert files name bytes))
+StoresOne (Ok _) name bytes s t = IfSome s.files (λ files. t.files ≡ Some (insert files name bytes)) × (t.store_faults ≡ s.store_faults)
 StoresOne (Err (halt.Unread file)) name bytes s t = ⊥
 StoresOne (Err (halt.Refused refusal)) name bytes s t = ⊥
 StoresOne (Err (halt.TooMany round stage count)) name bytes s t = ⊥
 StoresOne (Err (halt.Unstored unstored)) name bytes s t =
     (string_bytes unstored ≡ name) × Rose s.store_faults t.store_faults × IfSome s.files (λ files. HoldsFront files t.files name bytes)
 StoresOne (Err halt.Unput) name bytes s t = ⊥
+StoresOne (Err (halt.Parts fault)) name bytes s t = ⊥
 StoresOne (Err halt.Memory) name bytes s t = IfSome s.files (λ files. HoldsFront files t.files name bytes)
 
--- no file has changed, and nothing was put
+-- no file has changed, and nothing was posted, taken or put
 abbrev pub IsUntouched : Seen → Seen → Type 0
-IsUntouched s t = (t.depot.files ≡ s.depot.files) × (t.sink ≡ s.sink)
+IsUntouched s t = (t.depot.files ≡ s.depot.files) × (t.carrier ≡ s.carrier) × (t.sink ≡ s.sink)
 
 pub record HaltsTooMany (round stage count : ℕ) (job : Job) (s t : Seen) : Type 0 where
   pub inputs : Inputs
   pub verdict : IsVerdict s job (Ok inputs)
+  pub alone : inputs.handout ≡ None
   pub first : IsFirstPast (plan_of job inputs) job.rounds inputs.mesh round stage count
   pub files : t.depot.files ≡ s.depot.files
   pub printed : Puts (bytes_of (begun (round - 1) job inputs)) s.sink t.sink
@@ -113,10 +120,38 @@ pub record HaltsUnstored (name : List ℕ) (job : Job) (s t : Seen) : Type 0 whe
   pub inputs : Inputs
   pub done : List Act
   pub bytes : List ℕ
-  pub comes : ComesTo (Some job) s job inputs done (StoreFile name bytes)
+  pub comes : ComesTo (Some job) s t job inputs done (StoreFile name bytes)
   pub counted : Rose s.depot.store_faults t.depot.store_faults
   pub files : StoresFront (outputs done) name bytes s.depot.files t.depot.files
   pub printed : Puts (bytes_of done) s.sink t.sink
+
+-- the parts came to a fault
+pub record HaltsParts (fault : RunFault) (job : Job) (s t : Seen) : Type 0 where
+  pub inputs : Inputs
+  pub handout : Handout
+  pub verdict : IsVerdict s job (Ok inputs)
+  pub handed : inputs.handout ≡ Some handout
+  pub comes : ComesOf job inputs handout s.carrier t.carrier (Err fault)
+  pub cause : HasCause {W = WorldState} s.carrier t.carrier (Err fault)
+  pub files : t.depot.files ≡ s.depot.files
+  pub printed : Puts (bytes_of (begun 0 job inputs)) s.sink t.sink
+
+-- the parts have come to an end, where each sees its own of the mesh if all letters arrive
+pub record EndsParts (job : Job) (inputs : Inputs) (handout : Handout) (s t : Carried) (world : WorldState) : Type 0 where
+  pub comes : ComesOf job inputs handout s t (Ok world)
+  pub all : AreAll handout world
+  pub see : AllArrive handout.parts s → SeeMesh (whole handout) world.parts
+
+-- what the run of all parts answers
+abbrev pub RunsParts : Result WorldState Halt → Job → Inputs → Handout → Carried → Carried → Type 0
+RunsParts (Ok world) job inputs handout s t = EndsParts job inputs handout s t world
+RunsParts (Err (halt.Unread file)) job inputs handout s t = ⊥
+RunsParts (Err (halt.Refused refusal)) job inputs handout s t = ⊥
+RunsParts (Err (halt.TooMany round stage count)) job inputs handout s t = ⊥
+RunsParts (Err (halt.Unstored name)) job inputs handout s t = ⊥
+RunsParts (Err halt.Unput) job inputs handout s t = ⊥
+RunsParts (Err (halt.Parts fault)) job inputs handout s t = ComesOf job inputs handout s t (Err fault) × HasCause {W = WorldState} s t (Err fault)
+RunsParts (Err halt.Memory) job inputs handout s t = Unit {0}
 
 -- a run of a job did all of its acts, or before its last line is put has come to this
 abbrev pub Runs : {X : Type 0} → Result X Halt → Job → Seen → Seen → Type 0
@@ -126,11 +161,25 @@ Runs (Err (halt.Refused refusal)) job s t = IsVerdict s job (Err refusal) × Ref
 Runs (Err (halt.TooMany round stage count)) job s t = HaltsTooMany round stage count job s t
 Runs (Err (halt.Unstored name)) job s t = HaltsUnstored (string_bytes name) job s t
 Runs (Err halt.Unput) job s t = LeavesUnput (Some job) s t
+Runs (Err (halt.Parts fault)) job s t = HaltsParts fault job s t
 Runs (Err halt.Memory) job s t = LeavesMemory (Some job) s t
+
+-- likewise of a run whose inputs were fetched, from a depot that held the same files before
+abbrev pub RunsFrom : {X : Type 0} → Result X Halt → Job → Inputs → Carried → Carried → Held → Held → Received → Received → Type 0
+RunsFrom result job inputs c k e f s t =
+    (d : Held) → e.files ≡ d.files → e.store_faults ≡ d.store_faults → IfSome d.files (λ files. verdict files job ≡ Ok inputs) → Runs result job (seen d c s) (seen f k t)
 
 -- the run ends so, and its last line was put, or a front of it, unless memory ran out
 abbrev pub EndsAs : Status → Status → List ℕ → Received → Received → Type 0
 EndsAs status wanted line s t = ((status ≡ wanted) × PutsLast [] line s t) ⊎ (status ≡ Memory)
+
+-- the status of a run whose parts came to a fault, and its last line
+abbrev pub PartsEnd : Status → RunFault → Received → Received → Type 0
+PartsEnd status run.Link s t = EndsAs status LinkFault link_fault_line s t
+PartsEnd status (run.BadLetter bytes) s t = EndsAs status (BadLetter bytes) (bad_letter_line bytes.items) s t
+PartsEnd status (run.Starved part phase) s t = EndsAs status (Starved part phase) (starved_line part phase) s t
+PartsEnd status (run.Over round stage count) s t = EndsAs status (TooMany round stage count) (too_many_line round stage count) s t
+PartsEnd status run.Memory s t = status ≡ Memory
 
 -- the status of a run that has halted, and its last line
 abbrev pub Ends : Status → Halt → Job → Received → Received → Type 0
@@ -139,17 +188,5 @@ Ends status (halt.Refused refusal) job s t = EndsAs status (Refused refusal) (re
 Ends status (halt.TooMany round stage count) job s t = EndsAs status (TooMany round stage count) (too_many_line round stage count) s t
 Ends status (halt.Unstored name) job s t = EndsAs status WriteFault (write_fault_line (string_bytes name)) s t
 Ends status halt.Unput job s t = (status ≡ WriteFault) × (t ≡ s)
+Ends status (halt.Parts fault) job s t = PartsEnd status fault s t
 Ends status halt.Memory job s t = status ≡ Memory
-
-abbrev pub sizes_asked : SizeWords → Sizes
-sizes_asked (size_words.Uniform size) = Uniform size
-sizes_asked (size_words.InFile name) = InFile name.now
-
--- the one size is in range
-abbrev pub HasSize : SizeWords → Type 0
-HasSize (size_words.Uniform size) = is_size size ≡ true
-HasSize (size_words.InFile name) = Unit {0}
-
--- what the words ask for
-abbrev pub asked : Words → Job
-asked job = record { mesh = job.mesh.now; sizes = sizes_asked job.sizes; rounds = job.rounds; collapses = job.collapses; swaps = job.swaps; out = job.out.now }

@@ -1,0 +1,163 @@
+-- A mesh that is handed out: its parts can start, and where each sees its own of it, they end as is meant.
+use Rattle.std.proofs.Common.{◌≡◌, ℕ, zero, suc, ◌<◌, ◌≤◌, Bool, true, cond, List, [], ◌∷◌, ◌++◌, Option, Some, None, length, filter, map, take, refl, sym, subst, ap, ap₂, ◌∙◌, arith}
+use Rattle.std.specs.Prelude.{slice_get, is_some, false}
+use Rattle.std.specs.List.{All, list_all}
+use Rattle.std.specs.Option.{option_map}
+use Rattle.std.proofs.Math.Seq.{take-length}
+use Rattle.std.proofs.lemmas.Bool.{and_parts}
+use Rattle.std.proofs.lemmas.List.{map-append}
+use Rattle.ma_cells.specs.Cells.{CellMark, is_cell}
+use Rattle.ma_cells.specs.Grid.{are_on_grid, marks_are_on_grid}
+use Rattle.ma_cells.specs.Incidence.{is_on}
+use Rattle.ma_cells.specs.Meshes.{MarkedMesh}
+use Rattle.ma_cells.specs.Tetrahedron.{Tetrahedron}
+use Rattle.ma_cells.specs.declared.batch.Batch.{Batch}
+use Rattle.ma_cells.specs.declared.view.View.{View}
+use Rattle.ma_cells.proofs.Passing.{all_pass}
+use Rattle.directory.specs.Posting.{most_told}
+use Rattle.mesh_check.specs.Accepted.{most_accepted_tets}
+use Rattle.one_mesh.specs.Adaptation.{adapted}
+use Rattle.one_mesh.specs.Holding.{set_of}
+use Rattle.part_core.specs.Parts.{PartState}
+use Rattle.part_phases.specs.Inboxes.{below}
+use Rattle.std.proofs.lemmas.Option.{none-some, same_Some}
+use Rattle.part_store.specs.Labelled.{view_of}
+use Rattle.part_store.specs.Stores.{view_in}
+use Rattle.size_marks.specs.Field.{Field}
+use Rattle.world_run.specs.Drawn.{SeeMesh, letter_count}
+use Rattle.world_run.specs.Told.{WorldState}
+use Rattle.world_run.specs.Union.{union_in}
+use Rattle.world_run.proofs.Labelling.{is_labelled}
+use Rattle.world_run.proofs.Together.{parts_make_mesh}
+use Rattle.meshadapt.specs.declared.fetching.Accepted.{Accepted}
+use Rattle.meshadapt.specs.declared.fetching.Handout.{Handout as FetchedHandout}
+use Rattle.meshadapt.specs.declared.words.Division.{Division as DivisionWords}
+use Rattle.meshadapt.specs.declared.words.Job.{Job as Words}
+use Rattle.meshadapt.specs.Acts.{Ending, ending_by, meant_ending, whole}
+use Rattle.meshadapt.specs.Printed.{parts_done_line}
+use Rattle.meshadapt.specs.Verdict.{Handout, Inputs, plan_of}
+use Rattle.meshadapt.specs.Words.{Job}
+use Rattle.meshadapt.specs.steps.Asking.{IfDivided, IsInRange, asked, division_asked}
+use Rattle.meshadapt.specs.steps.Fetching.{AreLabels, HandoutFits, IsRunnable, handout_of, inputs_over}
+
+all_kept : {X : Type 0} (test : X → Bool) (xs : List X) → list_all test xs ≡ true → filter test xs ≡ xs
+all_kept test [] h = refl
+all_kept test (x ∷ xs) h =
+    let both = and_parts (test x) (list_all test xs) h in
+    ap (λ (b : Bool). cond b (x ∷ filter test xs) (filter test xs)) both.0 ∙ ap (λ ys. x ∷ ys) (all_kept test xs both.1)
+
+-- ---- the division of the words
+pub record IsDivided (rounds tets : ℕ) (fetched : FetchedHandout) : Type 0 where
+  pub some : 1 ≤ fetched.parts
+  pub most : fetched.parts ≤ 64
+  pub alone : rounds ≡ 0
+  pub labels : AreLabels fetched.parts tets fetched.labels.items
+
+divided : (rounds : ℕ) (division : Option DivisionWords) (tets : ℕ) (fetched : FetchedHandout) → IfDivided rounds division → HandoutFits division tets (Some fetched) → IsDivided rounds tets fetched
+divided rounds None tets fetched over fits = absurd fits
+divided rounds (Some division) tets fetched over fits =
+    let same : division.parts ≡ fetched.parts = sym fits.parts in
+    record {
+      some = subst (λ (n : ℕ). 1 ≤ n) same over.parts.least;
+      most = subst (λ (n : ℕ). n ≤ 64) same over.parts.most;
+      alone = over.first;
+      labels = fits.labels;
+    }
+
+-- a mesh is handed out only where there is a division
+pub not_alone : (division : Option DivisionWords) (tets : ℕ) (fetched : FetchedHandout) → HandoutFits division tets (Some fetched) → is_some (option_map division_asked division) ≡ false → ⊥
+not_alone None tets fetched fits none = fits
+not_alone (Some division) tets fetched fits none = absurd cc
+
+-- ---- what each of some sees
+first_and_next : {X : Type 0} (xs : List X) (n : ℕ) (x : X) → slice_get xs n ≡ Some x → take (suc n) xs ≡ take n xs ++ x ∷ []
+first_and_next [] n x e = absurd (none-some x e)
+first_and_next (y ∷ xs) zero x e = ap (λ z. z ∷ []) (same_Some y x e)
+first_and_next (y ∷ xs) (suc n) x e = ap (λ ys. y ∷ ys) (first_and_next xs n x e)
+
+found_at : {X Y : Type 0} (f : X → Y) (o : Option X) (y : Y) → option_map f o ≡ Some y → (x : X) × (o ≡ Some x) × (f x ≡ y)
+found_at f None y e = absurd (none-some y e)
+found_at f (Some x) y e = (x, refl, same_Some (f x) y e)
+
+pub next_seen : {X Y : Type 0} (f : X → Y) (xs : List X) (n : ℕ) (y : Y) → option_map f (slice_get xs n) ≡ Some y → take (suc n) (map f xs) ≡ take n (map f xs) ++ y ∷ []
+next_seen f [] n y e = absurd (none-some y e)
+next_seen f (x ∷ xs) zero y e = ap (λ z. z ∷ []) (same_Some (f x) y e)
+next_seen f (x ∷ xs) (suc n) y e = ap (λ ys. f x ∷ ys) (next_seen f xs n y e)
+
+module _ {X Y : Type 0} (f : X → Y) (g : ℕ → Y) (xs : List X) (sees : (n : ℕ) → n < length xs → option_map f (slice_get xs n) ≡ Some (g n)) where
+  firsts_seen : (n : ℕ) → n ≤ length xs → map f (take n xs) ≡ map g (below n)
+  firsts_seen zero within = refl
+  firsts_seen (suc n) within =
+      let at = found_at f (slice_get xs n) (g n) (sees n (omega arith)) in
+      ap (map f) (first_and_next xs n at.0 at.1)
+      ∙ (map-append f (take n xs) (at.0 ∷ []) ∙ (ap₂ (λ ys y. ys ++ y ∷ []) (firsts_seen n (omega arith)) at.2 ∙ sym (map-append g (below n) (n ∷ []))))
+
+  all_seen : map f xs ≡ map g (below (length xs))
+  all_seen = ap (map f) (sym (take-length xs)) ∙ firsts_seen (length xs) (omega arith)
+
+-- ---- a mesh that was fetched
+-- what the run of its parts requires
+pub record CanStart (mesh : MarkedMesh) (labels : List ℕ) (parts grid : ℕ) : Type 0 where
+  pub some : 1 ≤ parts
+  pub most : parts ≤ 64
+  pub grid_fits : grid ≤ 30
+  pub each : length labels ≡ length mesh.tets
+  pub tets : are_on_grid grid mesh.tets ≡ true
+  pub marks : marks_are_on_grid grid mesh.marks ≡ true
+  pub below : All (λ label. label < parts) labels
+  pub few : length mesh.tets ≤ most_told
+
+less_told : (n : ℕ) → n ≤ most_accepted_tets → n ≤ most_told
+less_told n h = omega arith
+
+module _ (words : Words) (accepted : Accepted) (fetched : FetchedHandout) (right : IsInRange words) (runs : IsRunnable accepted.mesh accepted.grid) (fits : HandoutFits words.division (length accepted.mesh.tets) (Some fetched)) where
+  abbrev mesh : MarkedMesh
+  mesh = accepted.mesh
+
+  abbrev handout : Handout
+  handout = handout_of mesh fetched
+
+  over : IsDivided words.rounds (length mesh.tets) fetched
+  over = divided words.rounds words.division (length mesh.tets) fetched right.division fits
+
+  pub runs_none : words.rounds ≡ 0
+  runs_none = over.alone
+
+  pub can_start : CanStart mesh handout.labels handout.parts accepted.grid
+  can_start = record {
+    some = over.some;
+    most = over.most;
+    grid_fits = runs.coarsest;
+    each = over.labels.each;
+    tets = runs.tets;
+    marks = runs.marks;
+    below = over.labels.below;
+    few = less_told (length mesh.tets) runs.few;
+  }
+
+  -- ---- its end
+  module _ (field : Field) (world : WorldState) (parts : length world.parts ≡ handout.parts) (letters : world.letters ≡ letter_count handout.parts) (see : SeeMesh (whole handout) world.parts) where
+    abbrev inputs : Inputs
+    inputs = inputs_over accepted field fetched
+
+    abbrev job : Job
+    job = asked words
+
+    mesh_is : union_in world.parts ≡ set_of mesh
+    mesh_is =
+        let labelled = is_labelled mesh handout.labels (length world.parts) over.labels.each (subst (λ (n : ℕ). All (λ label. label < n) handout.labels) (sym parts) over.labels.below) runs.rise (all_pass (λ mark. is_cell mark.cell) mesh.marks runs.cells) in
+        let made = parts_make_mesh mesh handout.labels world.parts over.labels.each labelled see in
+        let batch : List Tetrahedron → List CellMark → Batch = λ tets marks. record { tets = tets; marks = marks } in
+        ap₂ batch made.0 (made.1 ∙ all_kept (λ mark. is_on mesh.tets mark.cell) mesh.marks runs.on_cells)
+
+    final_is : set_of mesh ≡ adapted (plan_of job inputs) job.rounds inputs.mesh
+    final_is = sym (ap (λ (n : ℕ). adapted (plan_of job inputs) n inputs.mesh) over.alone)
+
+    views_are : map (λ (part : PartState). view_in part.standing.holds) world.parts ≡ map (view_of (whole handout)) (below handout.parts)
+    views_are = all_seen (λ (part : PartState). view_in part.standing.holds) (view_of (whole handout)) world.parts see ∙ ap (λ (n : ℕ). map (view_of (whole handout)) (below n)) parts
+
+    pub is_meant : ending_by world ≡ meant_ending job inputs (Some handout)
+    is_meant =
+        let made : Batch → List View → List ℕ → Ending = λ mesh views line. record { mesh = mesh; views = views; line = line } in
+        ap₂ (λ (m : Batch) (views : List View). made m views (parts_done_line (length world.parts) world.letters)) (mesh_is ∙ final_is) views_are
+        ∙ ap₂ (λ (n letters : ℕ). made (adapted (plan_of job inputs) job.rounds inputs.mesh) (map (view_of (whole handout)) (below handout.parts)) (parts_done_line n letters)) parts letters
