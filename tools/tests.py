@@ -253,6 +253,30 @@ def parts_are_balanced(model: str):
     assert between < 0.35 * len(labels), f"{between} faces between parts of {len(labels)} tetrahedra"
 
 
+def parts_see_their_own_and_what_lies_around(model: str):
+    whole = whole_of(model)
+    if not shutil.which("mpmetis"):
+        return "mpmetis isn't there"
+    partition, schedule, out = (model.replace(".msh", ending) for ending in (".part3", ".sched", "_parts"))
+    done("part", whole, 3, partition)
+    Path(schedule).write_text("".join(f"{7 * n}\n" for n in range(12)))
+    ended = ran(PROGRAM, "--mesh", whole, "--uniform", 64, "--parts", 3, "--partition", partition, "--schedule", schedule, "--rounds", 0, "--collapse", 0, "--swap", 0, "--out", out)
+    assert ended.returncode == 0 and ended.stdout.endswith("done: parts 3 letters 18\n"), ended.stdout
+    # The whole is what a run without parts stores.
+    plain = adapted(PROGRAM, whole, "--uniform", 64, rounds=0, name="_plain")
+    assert Path(f"{out}.msh").read_bytes() == Path(plain).read_bytes()
+    mesh = read_mesh(plain)
+    for part in range(3):
+        view = read_mesh(f"{out}.p{part}.msh")
+        owners, ghosts = view.cells[3].parts(), view.cells[3].ghosts()
+        assert np.count_nonzero(owners == part) == np.count_nonzero(np.array(Path(partition).read_text().split(), int) == part)
+        assert ((owners == part) == (ghosts == 0)).all()
+        # It sees each tetrahedron that has a corner of one of its own.
+        own = {tuple(point) for point in view.points[view.cells[3].corners[owners == part]].reshape(-1, 3).tolist()}
+        around = sum(any(tuple(point) in own for point in corners) for corners in mesh.points[mesh.tetrahedra].tolist())
+        assert around == len(view.tetrahedra), (around, len(view.tetrahedra))
+
+
 def pictures_show_the_mesh(model: str):
     if not importlib.util.find_spec("matplotlib"):
         return "matplotlib isn't there"
@@ -526,7 +550,7 @@ def wrapper_explains(folder: str):
     assert (ended.returncode, ended.stderr) == (0, "") and ended.stdout.endswith("done: plain\n"), ended
 
 
-ON_EACH_MODEL = (rounding_keeps_measures, refinement_keeps_measures, coarsening_keeps_measures, formats_read_back, parts_are_balanced, pictures_show_the_mesh, version_2_is_read_as_4)
+ON_EACH_MODEL = (rounding_keeps_measures, refinement_keeps_measures, coarsening_keeps_measures, formats_read_back, parts_are_balanced, parts_see_their_own_and_what_lies_around, pictures_show_the_mesh, version_2_is_read_as_4)
 ONCE = (
     flat_and_turned_are_named,
     nodes_together_are_named,
