@@ -1,0 +1,5 @@
+use Rattle.refined_views.proofs.NextMesh.{refined_times_is_shared}
+use Rattle.refined_views.proofs.laws.refined_times_is_shared.Goals as goal
+
+pub returns : goal.returns
+returns c = refined_times_is_shared

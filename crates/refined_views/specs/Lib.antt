@@ -1,0 +1,4 @@
+pub mod Refined
+pub mod Laws
+pub mod Repeated
+pub mod LaterRounds
