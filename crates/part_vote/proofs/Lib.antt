@@ -1,0 +1,3 @@
+mod Kept
+mod LabelsFound
+mod Rows

@@ -1,0 +1,5 @@
+mod Leads
+mod Legal
+mod Seen
+mod Votes
+mod Together
