@@ -56,6 +56,9 @@ module _ (p q r s : Coordinates) (rise : are_ascending place_cmp (p ∷ q ∷ r 
   pub across_third : (a : Coordinates) → is_same r a ≡ true → p ∷ q ∷ s ∷ [] ≡ besides (a ∷ []) (p ∷ q ∷ r ∷ s ∷ [])
   across_third a e = subst (λ a. p ∷ q ∷ s ∷ [] ≡ besides (a ∷ []) (p ∷ q ∷ r ∷ s ∷ [])) (same r a e) (rw (with_p.1, with_q.0, tied r, away r s rs) refl)
 
+  pub across_fourth : (a : Coordinates) → is_same s a ≡ true → p ∷ q ∷ r ∷ [] ≡ besides (a ∷ []) (p ∷ q ∷ r ∷ s ∷ [])
+  across_fourth a e = subst (λ a. p ∷ q ∷ r ∷ [] ≡ besides (a ∷ []) (p ∷ q ∷ r ∷ s ∷ [])) (same s a e) (rw (with_p.2, with_q.1, rs, tied s) refl)
+
 pub none_is : (p q r s a : Coordinates) → is_same p a ≡ false → is_same q a ≡ false → is_same r a ≡ false → is_same s a ≡ false → has place_cmp a (p ∷ q ∷ r ∷ s ∷ []) ≡ false
 none_is p q r s a e f g h = rw (away p a e, away q a f, away r a g, away s a h) refl
 

@@ -68,7 +68,7 @@ pub worst_of_set : (a v : Coordinates) (star : List Tetrahedron) → least (qual
 unfolding worst
 worst_of_set a v star = sym (least_set tet_cmp-IsAntisymmetric (λ (tet : Tetrahedron). quality tet.corners) (new_tets a v star))
 
-one_more : (w : Option ℕ) (n : ℕ) (ns : List ℕ) → least_with (Some (lesser w n)) ns ≡ least_with w (n ∷ ns)
+pub one_more : (w : Option ℕ) (n : ℕ) (ns : List ℕ) → least_with (Some (lesser w n)) ns ≡ least_with w (n ∷ ns)
 one_more None n ns = refl
 one_more (Some m) n [] = refl
 one_more (Some m) n (l ∷ ns) = min_join m n (least (l ∷ ns))

@@ -5,11 +5,14 @@ use Rattle.std.specs.Ordering.{eq_by_cmp}
 use Rattle.ma_geom.specs.Coordinates.{Coordinates, place_cmp}
 use Rattle.ma_geom.specs.Lines.{between, collinear, coplanar}
 use Rattle.ma_geom.specs.Quality.{quality}
+use Rattle.ma_geom.specs.Signs.{same_sign, side_of}
 use Rattle.ma_geom.specs.Turns.{same_turn}
+use Rattle.ma_geom.specs.declared.signs.Sign.TheVariants.{Zero}
 use Rattle.ma_cells.specs.Ascending.{has}
 use Rattle.ma_cells.specs.Cells.{CellMark}
 use Rattle.ma_cells.specs.Tetrahedron.{Tetrahedron}
 use Rattle.ma_cells.specs.Worst.{least}
+use Rattle.size_marks.specs.Field.{Field, is_long}
 use Rattle.cavity_collapse.specs.Collapsing.{is_same}
 use Rattle.cavity_collapse.specs.Curves.{tagged_end}
 use Rattle.cavity_collapse.specs.Surfaces.{across, tagged_third}
@@ -71,3 +74,16 @@ worst_with worst None = worst
 abbrev pub least_with : Option ℕ → List ℕ → ℕ
 least_with (Some n) ns = least (n ∷ ns)
 least_with None ns = least ns
+
+-- whether a face has v, or v lies off its plane
+abbrev pub lies_off : Coordinates → List Coordinates → Bool
+lies_off v face = has place_cmp v face || not (same_sign (side_of face v) Zero)
+
+-- the least so far, with one more, if there is one
+abbrev pub with_quality : Option ℕ → Option ℕ → Option ℕ
+with_quality worst (Some quality) = Some (lesser worst quality)
+with_quality worst None = worst
+
+-- whether an edge from v to x isn't long, or no tetrahedron that lacks v has x
+abbrev pub edge_stays_short : Field → List Tetrahedron → (v x : Coordinates) → Bool
+edge_stays_short field star v x = not (is_long field v x) || list_all (λ tet. has place_cmp v tet.corners || not (has place_cmp x tet.corners)) star

@@ -1,5 +1,5 @@
 // What a collapse leaves.
-ghost use Rattle.std.specs.Prelude.{◌≡◌, ◌∷◌, [], None, Some, if◌then◌else◌, map};
+ghost use Rattle.std.specs.Prelude.{◌≡◌, ◌∷◌, [], None, Some, if◌then◌else◌, map, nat_le, true};
 ghost use Rattle.std.specs.List.{flat_map};
 ghost use Rattle.ma_geom.specs.Coordinates.{place_cmp};
 ghost use Rattle.ma_geom.specs.Quality.{quality};
@@ -8,9 +8,12 @@ ghost use Rattle.ma_cells.specs.Stars.{besides, cone};
 ghost use Rattle.ma_cells.specs.Tetrahedron.{tetrahedron_of};
 ghost use Rattle.ma_cells.specs.Worst.{least, worst};
 ghost use Rattle.cavity_collapse.specs.Collapsing.{collapsed};
-ghost use Rattle.cavity_collapse.specs.Judging.{quality_is_kept};
-ghost use Rattle.cavity_collapse.specs.Steps.{each_passes, least_with, lesser, worst_with};
+ghost use Rattle.cavity_collapse.specs.Facing.{AreFacing, are_seen_from, cone_qualities, cone_quality, have_sides, if_at_least};
+ghost use Rattle.cavity_collapse.specs.Judging.{faces_are_seen, quality_is_kept};
+ghost use Rattle.cavity_collapse.specs.Steps.{each_passes, least_with, lesser, lies_off, with_quality, worst_with};
 
+use crate::facing::SidedFace;
+use crate::places::has;
 use crate::stars::face_across;
 use ma_cells::Tet;
 use ma_geom::{Place, quality};
@@ -112,38 +115,68 @@ pub(crate) fn quality_is_kept(old: u32, new: u32) -> bool
     old <= new || 1 << 24 <= new
 }
 
-/// Whether there is no quality yet, or it is kept.
-fn is_kept_so_far(old: u32, worst: Option<u32>) -> bool
-    ensures { result ≡ each_passes (quality_is_kept old) worst }
+/// The quality of the tetrahedron from `v` over a face, unless the face has `v`.
+fn cone_quality(v: Place, face: [Place; 3]) -> Option<u32>
+    requires { lies_off v face ≡ true }
+    ensures { result ≡ cone_quality v face }
+{
+    if has(&face, v) {
+        return None;
+    }
+    let [x, y, z] = face;
+    Some(quality([x, y, z, v]))
+}
+
+fn with_quality(worst: Option<u32>, quality: Option<u32>) -> Option<u32>
+    ensures { result ≡ with_quality worst quality }
+{
+    match quality {
+        Some(quality) => Some(lesser(worst, quality)),
+        None => worst,
+    }
+}
+
+fn is_at_least(floor: u32, worst: Option<u32>) -> bool
+    ensures { result ≡ each_passes (nat_le floor) worst }
 {
     match worst {
-        Some(worst) => quality_is_kept(old, worst),
+        Some(worst) => floor <= worst,
         None => true,
     }
 }
 
-fn if_kept(old: u32, new: u32) -> Option<u32>
-    ensures { result ≡ (if quality_is_kept old new then Some new else None) }
+fn if_at_least(floor: u32, number: u32) -> Option<u32>
+    ensures { result ≡ if_at_least floor number }
 {
-    if quality_is_kept(old, new) {
-        Some(new)
-    } else {
-        None
-    }
+    if floor <= number { Some(number) } else { None }
 }
 
-/// The least quality of the tetrahedra that fill the star of `a`, if it is kept. It is given up at
-/// the first of them whose quality isn't.
-#[tactic(auto, unfolding(ma_cells::specs::Worst::worst))]
-pub(crate) fn kept_worst(star: &[Tet], a: Place, v: Place, old: u32) -> Option<u32>
-    ensures { result ≡ (if quality_is_kept old (worst (collapsed a v star.now)) then Some (worst (collapsed a v star.now)) else None) }
+/// The least quality of the tetrahedra from `v` over these faces, 0 where there is none, if it is
+/// `floor` at least. It is given up at the first of them that is below.
+pub fn worst_over(faces: &[SidedFace], v: Place, floor: u32) -> Option<u32>
+    requires sides { have_sides faces.now ≡ true }
+    requires seen { are_seen_from v faces.now ≡ true }
+    ensures { result ≡ if_at_least floor (least (cone_qualities v faces.now)) }
 {
     let mut worst = None;
-    for tet in star {
-        worst = worst_with(worst, moved_tet(tet, a, v));
-        if !is_kept_so_far(old, worst) {
+    for one in faces {
+        worst = with_quality(worst, cone_quality(v, one.face));
+        if !is_at_least(floor, worst) {
             return None;
         }
     }
-    if_kept(old, worst.unwrap_or(0))
+    if_at_least(floor, worst.unwrap_or(0))
+}
+
+/// The least quality of what fills the star of `a` from `v`, by the faces across from `a`, if it is
+/// kept. That of the star is looked for only where the new one is below a sixty-fourth.
+pub(crate) fn kept_worst(star: &[Tet], faces: &[SidedFace], a: Place, v: Place) -> Option<u32>
+    requires faces { AreFacing star.now a faces.now }
+    requires seen { faces_are_seen star.now a v ≡ true }
+    ensures { result ≡ (if quality_is_kept (worst star.now) (worst (collapsed a v star.now)) then Some (worst (collapsed a v star.now)) else None) }
+{
+    match worst_over(faces, v, 1 << 24) {
+        Some(new) => Some(new),
+        None => worst_over(faces, v, worst(star).min(1 << 24)),
+    }
 }

@@ -1,18 +1,25 @@
 // Whether a collapse is legal.
-ghost use Rattle.std.specs.Prelude.{◌≡◌, ◌∷◌, [], ◌&&◌, Ok};
-ghost use Rattle.std.specs.List.{list_all};
+ghost use Rattle.std.specs.Prelude.{◌≡◌, ◌∷◌, [], ◌&&◌, not, Ok};
+ghost use Rattle.std.specs.List.{list_all, list_any};
 ghost use Rattle.ma_geom.specs.Lines.{collinear};
+ghost use Rattle.ma_cells.specs.Faces.{holds_all};
 ghost use Rattle.ma_cells.specs.Worst.{worst};
+ghost use Rattle.size_marks.specs.Field.{is_short};
 ghost use Rattle.cavity_rank.specs.Verdicts.{first_failing, verdict_of};
+ghost use Rattle.cavity_collapse.specs.Collapsing.{is_same};
 ghost use Rattle.cavity_collapse.specs.Curves.{curves_are_kept, is_free_point};
+ghost use Rattle.cavity_collapse.specs.Facing.{AreFacing, are_seen_from, others_of};
 ghost use Rattle.cavity_collapse.specs.Judging.{edges_stay_short, faces_are_seen, is_short_edge, judged_collapse, legal_quality, quality_is_kept};
 ghost use Rattle.cavity_collapse.specs.Rims.{rims_of};
 ghost use Rattle.cavity_collapse.specs.Surfaces.{planes_are_kept, surfaces_are_kept, turns_are_kept};
 
 use crate::curves::{curves_are_kept, is_free_point};
+use crate::facing::{SidedFace, are_seen_from};
 use crate::filling::{kept_worst, new_worst, quality_is_kept, worst};
 use crate::rims::all_lead_to;
-use crate::stars::{edges_stay_short, faces_are_seen, is_short_edge};
+use crate::stars::{
+    are_ends, edges_stay_short, edges_to_others_stay_short, faces_are_seen, is_short_edge,
+};
 use crate::surfaces::{planes_are_kept, surfaces_are_kept, turns_are_kept};
 use cavity_rank::Verdict;
 use ma_cells::{Mark, Tet};
@@ -99,63 +106,54 @@ pub fn judge(
 
 /// Whether the tests pass that cost little and refuse most. Of the faces a third is refused where
 /// all others pass, so they come before what is asked of surfaces and of sizes.
-fn may_move(star: &[Tet], marks: &[Mark], a: Place, v: Place, field: &SizeField) -> bool
-    ensures { result ≡ list_all (λ test. test) (is_short_edge field.now star.now a v ∷ is_free_point marks.now a ∷ planes_are_kept marks.now a v ∷ faces_are_seen star.now a v ∷ []) }
+fn may_move(faces: &[SidedFace], marks: &[Mark], a: Place, v: Place, field: &SizeField) -> bool
+    ensures { result ≡ list_all (λ test. test) (is_short field.now a v ∷ is_free_point marks.now a ∷ planes_are_kept marks.now a v ∷ are_seen_from v faces.now ∷ []) }
 {
-    is_short_edge(field, star, a, v)
+    field.is_short(a, v)
         && is_free_point(marks, a)
         && planes_are_kept(marks, a, v)
-        && faces_are_seen(star, a, v)
+        && are_seen_from(v, faces)
 }
 
-/// Whether the tests pass that cost more, with that of surfaces.
+/// Whether the tests pass that cost more.
 fn may_stay(
     star: &[Tet],
-    marks: &[Mark],
-    surfaces: bool,
-    a: Place,
-    v: Place,
-    field: &SizeField,
-) -> bool
-    ensures { result ≡ list_all (λ test. test) (curves_are_kept marks.now a v ∷ surfaces ∷ turns_are_kept marks.now a v ∷ edges_stay_short field.now star.now a v ∷ []) }
-{
-    surfaces
-        && curves_are_kept(marks, a, v)
-        && turns_are_kept(marks, a, v)
-        && edges_stay_short(field, star, a, v)
-}
-
-/// Whether all tests pass but that of quality.
-fn may_go(star: &[Tet], marks: &[Mark], a: Place, v: Place, field: &SizeField) -> bool
-    ensures { result ≡ (list_all (λ test. test) (is_short_edge field.now star.now a v ∷ is_free_point marks.now a ∷ planes_are_kept marks.now a v ∷ faces_are_seen star.now a v ∷ []) && list_all (λ test. test) (curves_are_kept marks.now a v ∷ surfaces_are_kept marks.now a v ∷ turns_are_kept marks.now a v ∷ edges_stay_short field.now star.now a v ∷ [])) }
-{
-    if !may_move(star, marks, a, v, field) {
-        return false;
-    }
-    let surfaces = surfaces_are_kept(marks, a, v);
-    may_stay(star, marks, surfaces, a, v, field)
-}
-
-/// The same by the rims of surfaces at `a`.
-fn may_go_beside(
-    star: &[Tet],
+    others: &[Place],
     marks: &[Mark],
     rims: &[Place],
     a: Place,
     v: Place,
     field: &SizeField,
 ) -> bool
-    ensures { result ≡ (list_all (λ test. test) (is_short_edge field.now star.now a v ∷ is_free_point marks.now a ∷ planes_are_kept marks.now a v ∷ faces_are_seen star.now a v ∷ []) && list_all (λ test. test) (curves_are_kept marks.now a v ∷ list_all (λ x. collinear a x v) rims.now ∷ turns_are_kept marks.now a v ∷ edges_stay_short field.now star.now a v ∷ [])) }
+    requires { others.now ≡ others_of (a ∷ []) star.now }
+    ensures { result ≡ list_all (λ test. test) ((not (is_same a v) && list_any (λ tet. holds_all tet.corners (a ∷ v ∷ [])) star.now) ∷ curves_are_kept marks.now a v ∷ list_all (λ x. collinear a x v) rims.now ∷ turns_are_kept marks.now a v ∷ edges_stay_short field.now star.now a v ∷ []) }
 {
-    if !may_move(star, marks, a, v, field) {
-        return false;
-    }
-    let surfaces = all_lead_to(rims, a, v);
-    may_stay(star, marks, surfaces, a, v, field)
+    all_lead_to(rims, a, v)
+        && curves_are_kept(marks, a, v)
+        && turns_are_kept(marks, a, v)
+        && are_ends(star, a, v)
+        && edges_to_others_stay_short(field, star, others, a, v)
+}
+
+/// Whether all tests pass but that of quality.
+fn may_go(
+    star: &[Tet],
+    others: &[Place],
+    faces: &[SidedFace],
+    marks: &[Mark],
+    rims: &[Place],
+    a: Place,
+    v: Place,
+    field: &SizeField,
+) -> bool
+    requires { others.now ≡ others_of (a ∷ []) star.now }
+    ensures { result ≡ (list_all (λ test. test) (is_short field.now a v ∷ is_free_point marks.now a ∷ planes_are_kept marks.now a v ∷ are_seen_from v faces.now ∷ []) && list_all (λ test. test) ((not (is_same a v) && list_any (λ tet. holds_all tet.corners (a ∷ v ∷ [])) star.now) ∷ curves_are_kept marks.now a v ∷ list_all (λ x. collinear a x v) rims.now ∷ turns_are_kept marks.now a v ∷ edges_stay_short field.now star.now a v ∷ [])) }
+{
+    may_move(faces, marks, a, v, field) && may_stay(star, others, marks, rims, a, v, field)
 }
 
 /// The least quality of the new tetrahedra, where a collapse of `a` to `v` is legal, with the least
-/// quality of its star. It takes no memory, and the tests that cost less come first.
+/// quality of its star. It takes no memory.
 pub fn legal_with(
     star: &[Tet],
     marks: &[Mark],
@@ -167,29 +165,31 @@ pub fn legal_with(
     requires { old ≡ worst star.now }
     ensures { result ≡ legal_quality (judged_collapse field.now star.now marks.now a v) }
 {
-    if may_go(star, marks, a, v, field) {
-        kept_worst(star, a, v, old)
-    } else {
-        None
+    match judge_with(star, marks, a, v, field, old) {
+        Verdict::Legal { worst } => Some(worst),
+        Verdict::Illegal(_) => None,
     }
 }
 
-/// The same, with the rims of marked surfaces at `a`, which are the same for each `v`.
+/// The same, by what is the same for each `v`: the other corners around `a`, the faces across from
+/// it, and the rims of marked surfaces at it. The tests that cost less come first.
 pub fn legal_beside(
     star: &[Tet],
+    others: &[Place],
+    faces: &[SidedFace],
     marks: &[Mark],
     rims: &[Place],
     a: Place,
     v: Place,
     field: &SizeField,
-    old: u32,
 ) -> Option<u32>
+    requires others { others.now ≡ others_of (a ∷ []) star.now }
+    requires faces { AreFacing star.now a faces.now }
     requires rims { rims.now ≡ rims_of marks.now a }
-    requires old { old ≡ worst star.now }
     ensures { result ≡ legal_quality (judged_collapse field.now star.now marks.now a v) }
 {
-    if may_go_beside(star, marks, rims, a, v, field) {
-        kept_worst(star, a, v, old)
+    if may_go(star, others, faces, marks, rims, a, v, field) {
+        kept_worst(star, faces, a, v)
     } else {
         None
     }

@@ -2,6 +2,7 @@
 #![tactic(auto)]
 
 mod curves;
+mod facing;
 mod filling;
 mod judging;
 mod places;
@@ -10,7 +11,8 @@ mod rims;
 mod stars;
 mod surfaces;
 
-pub use filling::worst;
+pub use facing::{SidedFace, are_seen_from, find_facing};
+pub use filling::{worst, worst_over};
 pub use judging::{judge, judge_with, legal_beside, legal_with};
 pub use results::result;
 pub use rims::find_rims;

@@ -9,7 +9,9 @@ ghost use Rattle.ma_cells.specs.Stars.{besides};
 ghost use Rattle.ma_cells.specs.Tetrahedron.{are_corners};
 ghost use Rattle.size_marks.specs.Field.{is_long, size_at};
 ghost use Rattle.cavity_collapse.specs.Collapsing.{is_same};
+ghost use Rattle.cavity_collapse.specs.Facing.{others_of};
 ghost use Rattle.cavity_collapse.specs.Judging.{edges_stay_short, faces_are_seen, is_short_edge};
+ghost use Rattle.cavity_collapse.specs.Steps.{edge_stays_short};
 
 use crate::places::{has, is_same};
 use ma_cells::Tet;
@@ -27,6 +29,13 @@ pub(crate) fn is_short_edge(field: &SizeField, star: &[Tet], a: Place, v: Place)
     ensures { result ≡ is_short_edge field.now star.now a v }
 {
     !is_same(a, v) && field.is_short(a, v) && is_edge(star, a, v)
+}
+
+/// Whether `a` and `v` are the ends of an edge.
+pub(crate) fn are_ends(star: &[Tet], a: Place, v: Place) -> bool
+    ensures { result ≡ (not (is_same a v) && list_any (λ tet. holds_all tet.corners (a ∷ v ∷ [])) star.now) }
+{
+    !is_same(a, v) && is_edge(star, a, v)
 }
 
 fn face_of(p: Place, q: Place, r: Place, s: Place, a: Place) -> Option<[Place; 3]>
@@ -119,4 +128,47 @@ pub(crate) fn edges_stay_short(field: &SizeField, star: &[Tet], a: Place, v: Pla
     let sized = field.sized(v);
     star.iter()
         .all(|tet| edges_stay_short_of(field, tet, a, v, sized))
+}
+
+fn has_or_lacks(tet: &Tet, v: Place, x: Place) -> bool
+    ensures { result ≡ (has place_cmp v tet.now.corners || not (has place_cmp x tet.now.corners)) }
+{
+    let corners = tet.corners();
+    has(&corners, v) || !has(&corners, x)
+}
+
+fn is_beside(star: &[Tet], v: Place, x: Place) -> bool
+    ensures { result ≡ list_all (λ tet. has place_cmp v tet.corners || not (has place_cmp x tet.corners)) star.now }
+{
+    star.iter().all(|tet| has_or_lacks(tet, v, x))
+}
+
+fn edge_stays_short(field: &SizeField, star: &[Tet], v: Place, sized: SizedPlace, x: Place) -> bool
+    requires { sized ≡ record { place = v; size = size_at field.now v } }
+    ensures { result ≡ edge_stays_short field.now star.now v x }
+{
+    !is_long_from(field, v, sized, x) || is_beside(star, v, x)
+}
+
+fn all_stay_short(field: &SizeField, star: &[Tet], others: &[Place], v: Place) -> bool
+    ensures { result ≡ list_all (edge_stays_short field.now star.now v) others.now }
+{
+    let sized = field.sized(v);
+    others
+        .iter()
+        .all(|x| edge_stays_short(field, star, v, sized, *x))
+}
+
+/// The same as `edges_stay_short`, by the other corners around `a`, so that each is looked at once.
+pub(crate) fn edges_to_others_stay_short(
+    field: &SizeField,
+    star: &[Tet],
+    others: &[Place],
+    a: Place,
+    v: Place,
+) -> bool
+    requires { others.now ≡ others_of (a ∷ []) star.now }
+    ensures { result ≡ edges_stay_short field.now star.now a v }
+{
+    all_stay_short(field, star, others, v)
 }

@@ -143,7 +143,7 @@ impl CornerTable {
         if tets.len() > u32::MAX as usize {
             return Err(Memory);
         }
-        let mut corners = Vec::new(alloc);
+        let mut corners = Vec::with_capacity(alloc, 4 * tets.len())?;
         for i in 0..tets.len() {
             corners.extend_from_slice(&four_of(tets[i].corners(), i as u32))?;
         }
@@ -182,7 +182,8 @@ impl CornerTable {
         if marks.len() > u32::MAX as usize {
             return Err(Memory);
         }
-        let mut corners = Vec::new(alloc);
+        // Most marks are on triangles, and none has more corners.
+        let mut corners = Vec::with_capacity(alloc, 3 * marks.len())?;
         for i in 0..marks.len() {
             push_corners(&mut corners, marks[i].cell(), i as u32)?;
         }

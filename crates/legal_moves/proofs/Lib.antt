@@ -3,5 +3,6 @@ pub mod BySpot
 pub mod ByVertex
 pub mod Closed
 pub mod Pushing
+mod Joined
 mod Near
 mod Taken

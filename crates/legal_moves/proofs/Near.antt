@@ -1,7 +1,7 @@
 -- What is around an edge or a face, by what is at its first place.
 use Rattle.std.proofs.Common.{◌≡◌, Bool, true, false, cond, ◌&&◌, ◌||◌, List, [], ◌∷◌, ◌++◌, filter, Option, Some, None, refl, sym, ap, subst, ◌∙◌}
-use Rattle.std.specs.List.{flat_map, list_any}
-use Rattle.std.proofs.lemmas.Bool.{false≢true}
+use Rattle.std.specs.List.{flat_map, list_all, list_any}
+use Rattle.std.proofs.lemmas.Bool.{and_from, false≢true}
 use Rattle.ma_geom.specs.Coordinates.{Coordinates, place_cmp}
 use Rattle.ma_geom.proofs.PlaceOrder.{place_cmp-IsAntisymmetric}
 use Rattle.ma_cells.specs.Ascending.{has}
@@ -35,6 +35,15 @@ module _ (a : Coordinates) (rest : List Coordinates) where
 
   pub marks_within : (marks : List CellMark) → marks_at (a ∷ rest) (marks_at (a ∷ []) marks) ≡ marks_at (a ∷ rest) marks
   marks_within = filter_within (λ (mark : CellMark). holds_all (corners_of mark.cell) (a ∷ [])) (λ (mark : CellMark). holds_all (corners_of mark.cell) (a ∷ rest)) (λ mark. narrowed (has place_cmp a (corners_of mark.cell)) (holds_all (corners_of mark.cell) rest))
+
+-- each tetrahedron around a vertex has it as a corner
+pub all_have : (a : Coordinates) (tets : List Tetrahedron) → list_all (λ tet. has place_cmp a tet.corners) (star_of (a ∷ []) tets) ≡ true
+all_have a [] = refl
+all_have a (tet ∷ tets) =
+    elim (has place_cmp a tet.corners) as (λ b. has place_cmp a tet.corners ≡ b → list_all (λ t. has place_cmp a t.corners) (cond (b && true) (tet ∷ star_of (a ∷ []) tets) (star_of (a ∷ []) tets)) ≡ true) [
+      | true ↦ λ e. and_from _ _ e (all_have a tets)
+      | false ↦ λ _. all_have a tets
+    ] refl
 
 -- what is at hand
 pub at_hand : (mesh : Batch) (first : Option Coordinates) (a : Coordinates) (tets : List Tetrahedron) (marks : List CellMark) → is_at first a ≡ true → AreAt mesh first tets marks → (first ≡ Some a) × AreAt mesh (Some a) tets marks

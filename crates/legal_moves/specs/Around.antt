@@ -10,11 +10,12 @@ use Rattle.ma_geom.specs.Quality.{quality}
 use Rattle.ma_cells.specs.Ascending.{ascending_of}
 use Rattle.ma_cells.specs.Cells.{CellMark}
 use Rattle.ma_cells.specs.Faces.{choices}
-use Rattle.ma_cells.specs.Stars.{besides, marks_at, star_of}
+use Rattle.ma_cells.specs.Stars.{marks_at, star_of}
 use Rattle.ma_cells.specs.Tetrahedron.{Tetrahedron, tet_cmp}
 use Rattle.ma_cells.specs.declared.batch.Batch.{Batch}
 use Rattle.size_marks.specs.Field.{Field}
 use Rattle.cavity_rank.specs.Operations.{Operation}
+pub use Rattle.cavity_collapse.specs.Facing.{others_of}
 use Rattle.cavity_collapse.specs.Judging.{legal_quality}
 use Rattle.cavity_swap.specs.Judging.{is_bad, judged_swap}
 use Rattle.cavity_swap.specs.Outer.{quality_from}
@@ -27,10 +28,6 @@ spot_cmp at other = slice_cmp place_cmp at other
 
 abbrev pub vertices_of : List Tetrahedron → List Coordinates
 vertices_of tets = ascending_of place_cmp (flat_map (λ tet. tet.corners) tets)
-
--- the other corners of the tetrahedra around some places
-abbrev pub others_of : (at : List Coordinates) → List Tetrahedron → List Coordinates
-others_of at star = ascending_of place_cmp (flat_map (λ tet. besides at tet.corners) star)
 
 abbrev pub legal_around : Field → Batch → (at : List Coordinates) → List Operation
 legal_around field mesh at = flat_map (legal_from field mesh at) (others_of at (star_of at mesh.tets))

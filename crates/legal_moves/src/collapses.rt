@@ -3,13 +3,14 @@ ghost use Rattle.std.specs.Prelude.{◌≡◌, ◌++◌, ◌∷◌, [], IfOk, On
 ghost use Rattle.std.specs.List.{flat_map, list_any};
 ghost use Rattle.size_marks.specs.Field.{is_short};
 ghost use Rattle.cavity_rank.specs.declared.verdict.Kind.TheVariants.{Collapse};
+ghost use Rattle.cavity_collapse.specs.Facing.{AreFacing, others_of};
 ghost use Rattle.cavity_collapse.specs.Rims.{rims_of};
 ghost use Rattle.corner_tables.specs.Tables.{marks_table, tets_table};
 ghost use Rattle.legal_moves.specs.Around.{legal_around, vertices_of};
 ghost use Rattle.pass_rules.specs.Moves.{legal_operations, operations_from, quality_at};
 
 use crate::surroundings::{Surroundings, find_others, push_operation};
-use cavity_collapse::{find_rims, legal_beside, worst};
+use cavity_collapse::{SidedFace, find_facing, find_rims, legal_beside};
 use cavity_rank::Operation;
 use corner_tables::CornerTable;
 use ma_cells::{Ascending, Batch, Mark, Tet};
@@ -21,29 +22,32 @@ use std::alloc::Global;
 fn vertices(alloc: Global, tets: &[Tet]) -> Result<Ascending<Place>, Memory>
     ensures { IfOk result (λ places. places ≡ vertices_of tets.now) }
 {
-    let mut places = Vec::new(alloc);
+    let mut places = Vec::with_capacity(alloc, 4 * tets.len())?;
     for tet in tets {
         places.extend_from_slice(&tet.corners())?;
     }
     Ok(Ascending::gather(places))
 }
 
-/// Appends the legal collapses of `a` to these places, with the rims of marked surfaces at `a`.
+/// Appends the legal collapses of `a`, by the other corners around it, the faces across from it, and
+/// the rims of marked surfaces at it.
 fn push_legal(
     ops: &mut Vec<Operation>,
     star: &[Tet],
+    others: &[Place],
+    faces: &[SidedFace],
     marks: &[Mark],
     rims: &[Place],
     a: Place,
-    ends: &[Place],
     field: &SizeField,
 ) -> Result<(), Memory>
-    requires { rims.now ≡ rims_of marks.now a }
-    ensures { OnOk result (ops.new.items ≡ ops.old.items ++ flat_map (λ v. operations_from (a ∷ []) v (quality_at field.now star.now marks.now (a ∷ []) v)) ends.now) }
+    requires others { others.now ≡ others_of (a ∷ []) star.now }
+    requires faces { AreFacing star.now a faces.now }
+    requires rims { rims.now ≡ rims_of marks.now a }
+    ensures { OnOk result (ops.new.items ≡ ops.old.items ++ flat_map (λ v. operations_from (a ∷ []) v (quality_at field.now star.now marks.now (a ∷ []) v)) others.now) }
 {
-    let old = worst(star);
-    for v in ends {
-        let quality = legal_beside(star, marks, rims, a, *v, field, old);
+    for v in others {
+        let quality = legal_beside(star, others, faces, marks, rims, a, *v, field);
         push_operation(ops, &[a], *v, quality)?;
     }
     Ok(())
@@ -77,13 +81,15 @@ fn push_around(
     }
     by_marks.marks_at(mesh.marks.as_slice(), &[a], &mut around.marks)?;
     find_rims(&mut around.rims, around.marks.as_slice(), a)?;
+    find_facing(&mut around.facing, around.star.as_slice(), a)?;
     push_legal(
         ops,
         around.star.as_slice(),
+        around.others.as_slice(),
+        around.facing.as_slice(),
         around.marks.as_slice(),
         around.rims.as_slice(),
         a,
-        around.others.as_slice(),
         field,
     )
 }

@@ -40,7 +40,7 @@ pub(crate) fn bad_among(alloc: Global, tets: &[Tet]) -> Result<Vec<Tet>, Memory>
 pub(crate) fn edges_of(alloc: Global, tets: &[Tet]) -> Result<Ascending<[Place; 2]>, Memory>
     ensures { IfOk result (λ edges. edges ≡ parts_of 2 tets.now) }
 {
-    let mut edges = Vec::new(alloc);
+    let mut edges = Vec::with_capacity(alloc, 6 * tets.len())?;
     for tet in tets {
         edges.extend_from_slice(&tet.edges())?;
     }
@@ -51,7 +51,7 @@ pub(crate) fn edges_of(alloc: Global, tets: &[Tet]) -> Result<Ascending<[Place; 
 pub(crate) fn faces_of(alloc: Global, tets: &[Tet]) -> Result<Ascending<[Place; 3]>, Memory>
     ensures { IfOk result (λ faces. faces ≡ parts_of 3 tets.now) }
 {
-    let mut faces = Vec::new(alloc);
+    let mut faces = Vec::with_capacity(alloc, 4 * tets.len())?;
     for tet in tets {
         faces.extend_from_slice(&tet.faces())?;
     }

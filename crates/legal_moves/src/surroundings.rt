@@ -1,5 +1,5 @@
 // What is around a vertex, an edge or a face, and operations that take it away.
-ghost use Rattle.std.specs.Prelude.{◌≡◌, ◌≤◌, ◌++◌, ◌∷◌, [], None, OnOk, Some, if◌then◌else◌, length, true};
+ghost use Rattle.std.specs.Prelude.{◌≡◌, ◌≤◌, ◌++◌, ◌∷◌, ◌||◌, [], None, OnOk, Some, if◌then◌else◌, length, true};
 ghost use Rattle.std.specs.FinMap.{IsAntisymmetric};
 ghost use Rattle.std.specs.List.{flat_map};
 ghost use Rattle.std.specs.List.Sorted.{IsStrictlySortedBy};
@@ -14,6 +14,7 @@ ghost use Rattle.corner_tables.specs.Tables.{marks_table, tets_table};
 ghost use Rattle.legal_moves.specs.Around.{AreAt, is_at, others_of};
 ghost use Rattle.pass_rules.specs.Moves.{operations_from};
 
+use cavity_collapse::SidedFace;
 use cavity_rank::Operation;
 use cavity_swap::OuterFace;
 use corner_tables::CornerTable;
@@ -22,8 +23,8 @@ use ma_geom::{Memory, Place};
 use std::alloc::Global;
 
 /// What is around one spot after the other, in memory that is used again: the tetrahedra and the
-/// marks there, the rims of marked surfaces at a vertex, the other corners of the tetrahedra, and the
-/// faces that one of these alone has. The tetrahedra and the marks at the first place of the last spot
+/// marks there, the rims of marked surfaces at a vertex and the faces across from it, the other
+/// corners of the tetrahedra, and the faces that one of these alone has. The tetrahedra and the marks at the first place of the last spot
 /// stay at hand, since spots in ascending order have the same first place many times in turn.
 #[derive(Drop)]
 pub(crate) struct Surroundings {
@@ -33,6 +34,7 @@ pub(crate) struct Surroundings {
     pub(crate) star: Vec<Tet>,
     pub(crate) marks: Vec<Mark>,
     pub(crate) rims: Vec<Place>,
+    pub(crate) facing: Vec<SidedFace>,
     pub(crate) others: Vec<Place>,
     pub(crate) outer: Vec<OuterFace>,
 }
@@ -48,6 +50,7 @@ impl Surroundings {
             star: Vec::new(alloc),
             marks: Vec::new(alloc),
             rims: Vec::new(alloc),
+            facing: Vec::new(alloc),
             others: Vec::new(alloc),
             outer: Vec::new(alloc),
         }
@@ -171,27 +174,50 @@ fn is_among(place: Place, places: &[Place]) -> bool
     places.contains(&place)
 }
 
-fn push_unless(places: &mut Vec<Place>, place: Place, at: &[Place]) -> Result<(), Memory>
-    ensures { OnOk result (places.new.items ≡ places.old.items ++ besides at.now (place ∷ [])) }
+/// Among how many of the last places a corner is looked for, before it is pushed once more. To look
+/// through all of them would take quadratic time around a vertex of very many tetrahedra. What is
+/// pushed more than once is dropped later, when the list is made a set, and most vertices have fewer
+/// neighbours.
+const FEW: usize = 64;
+
+/// Whether a place is among the last few of these. It may stand further in front.
+fn is_among_last(place: Place, places: &[Place]) -> bool
+    ensures { result ≡ true → has place_cmp place places.now ≡ true }
 {
-    if !is_among(place, at) {
-        places.push(place)?;
+    is_among(place, &places[places.len().saturating_sub(FEW)..])
+}
+
+/// Whether a place is among those `at` a spot or is found among those that are there already.
+fn is_known(place: Place, at: &[Place], places: &[Place]) -> bool
+    ensures known { result ≡ true → (has place_cmp place at.now || has place_cmp place places.now) ≡ true }
+    ensures other { has place_cmp place at.now ≡ true → result ≡ true }
+{
+    is_among(place, at) || is_among_last(place, places)
+}
+
+fn push_unless(places: &mut Vec<Place>, place: Place, at: &[Place]) -> Result<(), Memory>
+    ensures { OnOk result (ascending_of place_cmp places.new.items ≡ ascending_of place_cmp (places.old.items ++ besides at.now (place ∷ []))) }
+{
+    if is_known(place, at, places.as_slice()) {
+        return Ok(());
     }
+    places.push(place)?;
     Ok(())
 }
 
 fn push_besides(places: &mut Vec<Place>, corners: &[Place], at: &[Place]) -> Result<(), Memory>
-    ensures { OnOk result (places.new.items ≡ places.old.items ++ besides at.now corners.now) }
+    ensures { OnOk result (ascending_of place_cmp places.new.items ≡ ascending_of place_cmp (places.old.items ++ besides at.now corners.now)) }
 {
-    if let [first, rest @ ..] = corners {
-        push_unless(places, *first, at)?;
-        push_besides(places, rest, at)?;
+    for place in corners {
+        push_unless(places, *place, at)?;
     }
     Ok(())
 }
 
+/// Puts down the corners of these tetrahedra that aren't among some places. Most are few, and each
+/// is put down once, so to look through them costs less than to sort all corners.
 fn push_others(places: &mut Vec<Place>, star: &[Tet], at: &[Place]) -> Result<(), Memory>
-    ensures { OnOk result (places.new.items ≡ places.old.items ++ flat_map (λ tet. besides at.now tet.corners) star.now) }
+    ensures { OnOk result (ascending_of place_cmp places.new.items ≡ ascending_of place_cmp (places.old.items ++ flat_map (λ tet. besides at.now tet.corners) star.now)) }
 {
     for tet in star {
         push_besides(places, &tet.corners(), at)?;

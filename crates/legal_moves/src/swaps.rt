@@ -228,23 +228,31 @@ fn push_face_swaps(
     Ok(())
 }
 
-/// The legal swaps of these edges and faces.
+/// The legal swaps of these edges and faces. The edges are let go before it comes to the faces.
 fn swaps_of(
     alloc: Global,
     mesh: &Batch,
     table: &CornerTable,
-    edges: &[[Place; 2]],
+    edges: Ascending<[Place; 2]>,
     faces: &[[Place; 3]],
 ) -> Result<Vec<Operation>, Memory>
     requires table { table.now ≡ tets_table mesh.now.tets }
-    requires edges { list_all (are_ascending place_cmp) edges.now ≡ true }
+    requires edges { list_all (are_ascending place_cmp) edges ≡ true }
     requires faces { list_all (are_ascending place_cmp) faces.now ≡ true }
-    ensures { IfOk result (λ ops. ops.items ≡ flat_map (swaps_around mesh.now) edges.now ++ flat_map (swaps_around mesh.now) faces.now) }
+    ensures { IfOk result (λ ops. ops.items ≡ flat_map (swaps_around mesh.now) edges ++ flat_map (swaps_around mesh.now) faces.now) }
 {
     let by_marks = CornerTable::of_marks(alloc, mesh.marks.as_slice())?;
     let mut around = Surroundings::new(alloc);
     let mut ops = Vec::new(alloc);
-    push_edge_swaps(&mut ops, &mut around, mesh, table, &by_marks, edges)?;
+    push_edge_swaps(
+        &mut ops,
+        &mut around,
+        mesh,
+        table,
+        &by_marks,
+        edges.as_slice(),
+    )?;
+    drop(edges);
     push_face_swaps(&mut ops, &mut around, mesh, table, &by_marks, faces)?;
     Ok(ops)
 }
@@ -262,6 +270,6 @@ pub(crate) fn legal_swaps(
     let bad = bad_among(alloc, mesh.tets.as_slice())?;
     let edges = edges_of(alloc, bad.as_slice())?;
     let faces = faces_of(alloc, bad.as_slice())?;
-    let ops = swaps_of(alloc, mesh, table, edges.as_slice(), faces.as_slice())?;
+    let ops = swaps_of(alloc, mesh, table, edges, faces.as_slice())?;
     Ok(Ascending::gather(ops))
 }

@@ -31,7 +31,8 @@ fn left_by(alloc: Global, taken: &[bool], tets: &[Tet]) -> Result<Vec<Tet>, Memo
     requires { length taken.now ≡ length tets.now }
     ensures { IfOk result (λ left. left.items ≡ left_by taken.now tets.now) }
 {
-    let mut left = Vec::new(alloc);
+    // Most are left, and what fills the cavities takes the places of the others.
+    let mut left = Vec::with_capacity(alloc, tets.len())?;
     for i in 0..tets.len() {
         push_unless(&mut left, tets[i], taken[i])?;
     }

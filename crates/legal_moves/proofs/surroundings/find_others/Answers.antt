@@ -10,4 +10,4 @@ use Rattle.legal_moves.proofs.surroundings.find_others.Goals as goal
 pub returns : goal.returns
 returns c =
     c.make_set.ensures place_cmp-IsAntisymmetric
-    ∙ ap (ascending_of place_cmp) (c.in_ok-push_others.ensures ∙ ap (λ places. places ++ flat_map (λ (tet : Tetrahedron). besides c.args.at.now tet.corners) c.args.star.now) c.clear.ensures.items)
+    ∙ c.in_ok-push_others.ensures ∙ ap (λ places. ascending_of place_cmp (places ++ flat_map (λ (tet : Tetrahedron). besides c.args.at.now tet.corners) c.args.star.now)) c.clear.ensures.items
