@@ -3,3 +3,5 @@ pub mod Agreeing
 mod Owners
 mod FoundMarks
 mod Gathered
+mod BoxedPlaces
+mod OwnMarks

@@ -3,6 +3,7 @@
 
 mod around;
 mod batches;
+mod bounds;
 mod corners;
 mod laws;
 mod marks;

@@ -36,11 +36,16 @@ pub struct Store {
 }
 
 impl Model for Store {
+    ghost use Rattle.std.specs.Prelude.{◌≡◌, []};
+    ghost use Rattle.part_store.specs.Labelled.{marks_on};
     ghost use Rattle.part_store.specs.Stores.{StoreState};
 
     ghost Value = { StoreState };
 
     ghost view = { λ s. record { part = s.part; own = s.own; ghosts = s.ghosts; marks = s.marks; shared = s.shared.items } };
+
+    // Without ghosts all marks are on own cells, so that they need no look-up.
+    ghost invariant = { λ s. s.ghosts ≡ [] → marks_on s.own s.marks ≡ s.marks };
 }
 
 fn tet_set(tets: Vec<Tet>) -> Ascending<Tet>
@@ -61,7 +66,7 @@ impl Store {
         ensures { IfOk result (λ store. store ≡ started part own.now marks.now) }
     {
         let tets = Vec::from_slice(alloc, own)?;
-        let kept = marks_on(alloc, own, Vec::from_slice(alloc, marks)?)?;
+        let kept = marks_on(alloc, own, marks)?;
         Ok(Store {
             part,
             own: tet_set(tets),
@@ -101,10 +106,15 @@ impl Store {
         corner_set(alloc, self.own.as_slice())
     }
 
-    /// The marks here that are on cells of the part's own tetrahedra, in n log n steps.
+    /// The marks here that are on cells of the part's own tetrahedra, in n log n steps. Without
+    /// ghosts these are all marks, and are copied.
     pub fn own_marks(&self, alloc: Global) -> Result<Ascending<Mark>, Memory>
         ensures { IfOk result (λ marks. marks ≡ marks_on self.now.own self.now.marks) }
     {
+        if self.ghosts.as_slice().is_empty() {
+            let marks = Vec::from_slice(alloc, self.marks.as_slice())?;
+            return Ok(Ascending::from_vec(marks));
+        }
         self.marks_on(alloc, self.own.as_slice())
     }
 
@@ -112,8 +122,7 @@ impl Store {
     pub fn marks_on(&self, alloc: Global, tets: &[Tet]) -> Result<Ascending<Mark>, Memory>
         ensures { IfOk result (λ marks. marks ≡ marks_on tets.now self.now.marks) }
     {
-        let marks = Vec::from_slice(alloc, self.marks.as_slice())?;
-        let kept = marks_on(alloc, tets, marks)?;
+        let kept = marks_on(alloc, tets, self.marks.as_slice())?;
         Ok(Ascending::from_vec(kept))
     }
 
@@ -190,7 +199,8 @@ impl Store {
         let got = tets_got(alloc, ghosts)?;
         let seen = all_of(alloc, self.own.as_slice(), got.as_slice())?;
         let mut marks = self.own_marks(alloc)?.into_vec();
-        let joined = marks_on(alloc, seen.as_slice(), marks_got(alloc, ghosts)?)?;
+        let sent = marks_got(alloc, ghosts)?;
+        let joined = marks_on(alloc, seen.as_slice(), sent.as_slice())?;
         marks.extend_from_slice(joined.as_slice())?;
         self.ghosts = ghost_set(got);
         self.marks = mark_set(marks);
@@ -202,10 +212,10 @@ impl Store {
         ensures ok { OnOk result (self.new ≡ with_marks self.old marks.now) }
         ensures err { OnErr result (self.new ≡ self.old) }
     {
-        let mut all = Vec::from_slice(alloc, self.marks.as_slice())?;
-        all.extend_from_slice(marks)?;
-        let kept = marks_on(alloc, self.own.as_slice(), all)?;
-        self.marks = mark_set(kept);
+        let mut all = self.own_marks(alloc)?.into_vec();
+        let joined = marks_on(alloc, self.own.as_slice(), marks)?;
+        all.extend_from_slice(joined.as_slice())?;
+        self.marks = mark_set(all);
         Ok(())
     }
 
@@ -233,7 +243,7 @@ impl Store {
         let own = self.own_after(alloc, ended, added)?;
         let mut joined = self.own_marks(alloc)?.into_vec();
         joined.extend_from_slice(added.marks.as_slice())?;
-        let kept = marks_on(alloc, own.as_slice(), joined)?;
+        let kept = marks_on(alloc, own.as_slice(), joined.as_slice())?;
         self.own = own;
         self.ghosts = Ascending::new(alloc);
         self.marks = mark_set(kept);

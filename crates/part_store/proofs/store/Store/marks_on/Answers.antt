@@ -1,9 +1,5 @@
-use Rattle.std.proofs.Common.{◌∙◌, ap}
-use Rattle.part_store.specs.Labelled.{marks_on}
 use Rattle.part_store.proofs.Gathered.{kept_marks_rise}
 use Rattle.part_store.proofs.store.Store.marks_on.Goals as goal
 
 pub from_vec-requires : goal.from_vec-requires
-from_vec-requires c =
-    kept_marks_rise c.args.tets.now c.as_slice.result.now c.in_ok-kept.kept.items c.as_slice.ensures.rises
-    (c.in_ok-kept.ensures ∙ ap (marks_on c.args.tets.now) c.in_ok-marks.ensures.items)
+from_vec-requires c = kept_marks_rise c.args.tets.now c.as_slice.result.now c.in_ok-kept.kept.items c.as_slice.ensures.rises c.in_ok-kept.ensures

@@ -1,0 +1,25 @@
+use Rattle.std.proofs.Common.{◌≡◌, ◌∙◌}
+use Rattle.std.specs.Int.{int_min}
+use mir.Syntax.{w32}
+use mir.Val.{to_z, of_z}
+use Rattle.part_store.proofs.BoxedPlaces.{near_min, stored_min}
+use Rattle.part_store.proofs.bounds.lower.Goals as goal
+
+pub place_at-requires-clause-x_in : goal.place_at-requires-clause-x_in
+place_at-requires-clause-x_in c = near_min c.x.result c.x-2.result c.min.result c.x.ensures.range c.x-2.ensures.range c.min.ensures.value
+
+pub place_at-requires-clause-y_in : goal.place_at-requires-clause-y_in
+place_at-requires-clause-y_in c = near_min c.y.result c.y-2.result c.min-2.result c.y.ensures.range c.y-2.ensures.range c.min-2.ensures.value
+
+pub place_at-requires-clause-z_in : goal.place_at-requires-clause-z_in
+place_at-requires-clause-z_in c = near_min c.z.result c.z-2.result c.min-3.result c.z.ensures.range c.z-2.ensures.range c.min-3.ensures.value
+
+pub returns : goal.returns
+returns c =
+    let same_x : to_z w32 (of_z w32 c.min.result) ≡ int_min c.args.p.x c.args.q.x
+    = stored_min c.args.p.x c.args.q.x c.x.result c.x-2.result c.min.result c.x.ensures.value c.x-2.ensures.value c.x.ensures.range c.x-2.ensures.range c.min.ensures.value in
+    let same_y : to_z w32 (of_z w32 c.min-2.result) ≡ int_min c.args.p.y c.args.q.y
+    = stored_min c.args.p.y c.args.q.y c.y.result c.y-2.result c.min-2.result c.y.ensures.value c.y-2.ensures.value c.y.ensures.range c.y-2.ensures.range c.min-2.ensures.value in
+    let same_z : to_z w32 (of_z w32 c.min-3.result) ≡ int_min c.args.p.z c.args.q.z
+    = stored_min c.args.p.z c.args.q.z c.z.result c.z-2.result c.min-3.result c.z.ensures.value c.z-2.ensures.value c.z.ensures.range c.z-2.ensures.range c.min-3.ensures.value in
+    c.place_at.ensures ∙ (λ i. record { x = same_x i; y = same_y i; z = same_z i })

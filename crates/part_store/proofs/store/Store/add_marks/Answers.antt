@@ -1,0 +1,14 @@
+use Rattle.std.proofs.Common.{◌≡◌, ◌++◌, refl, rules}
+use Rattle.ma_cells.specs.Ascending.{ascending_of}
+use Rattle.ma_cells.specs.Cells.{mark_cmp}
+use Rattle.part_store.specs.Labelled.{marks_on}
+use Rattle.part_store.proofs.OwnMarks.{joined_own, named}
+use Rattle.part_store.proofs.store.Store.add_marks.Goals as goal
+
+pub invariant_of-self : goal.invariant_of-self
+invariant_of-self c _ =
+    let own = c.self.inside.own in
+    let old = c.self.inside.marks in
+    let marks = c.args.marks.now in
+    let made : c.mark_set.result ≡ ascending_of mark_cmp (marks_on own old ++ marks_on own marks) = search rules in
+    named own own c.mark_set.result (ascending_of mark_cmp (marks_on own old ++ marks_on own marks)) refl made (joined_own own old marks)
