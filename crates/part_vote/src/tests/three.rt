@@ -1,8 +1,10 @@
 // Values that were worked out by hand, on three tetrahedra around an edge over two parts, and on three along a line over three.
+ghost use Rattle.std.specs.Prelude.{◌≢◌};
+
 use super::at;
 use crate::{ballots, proposals, won};
 use cavity_rank::{Kind, Operation};
-use ma_cells::{Ascending, Batch, Cell, Mark, Tet};
+use ma_cells::{Ascending, Batch, Cell, Label, Mark, Tet};
 use ma_geom::{Memory, Place};
 use part_store::Store;
 use size_marks::SizeField;
@@ -157,31 +159,37 @@ fn along_marks() -> [Mark; 8] {
     ]
 }
 
+/// What a part holds of the line that has one of the tetrahedra, and two others as ghosts.
+fn line_store(
+    alloc: Global,
+    part: Label,
+    own: Tet,
+    first: (Label, Tet),
+    second: (Label, Tet),
+) -> Result<Store, Memory>
+    requires first { first.0 ≢ part }
+    requires second { second.0 ≢ part }
+{
+    let mut store = Store::start(alloc, part, &[own], &along_marks())?;
+    let by_first = shown(alloc, &[first.1], &along_marks())?;
+    let by_second = shown(alloc, &[second.1], &along_marks())?;
+    store.set_ghosts(alloc, &[(first.0, by_first), (second.0, by_second)])?;
+    Ok(store)
+}
+
 fn line_store_0(alloc: Global) -> Result<Store, Memory> {
     let [own, second, third] = all_along();
-    let mut store = Store::start(alloc, 0, &[own], &along_marks())?;
-    let by_1 = shown(alloc, &[second], &along_marks())?;
-    let by_2 = shown(alloc, &[third], &along_marks())?;
-    store.set_ghosts(alloc, &[(1, by_1), (2, by_2)])?;
-    Ok(store)
+    line_store(alloc, 0, own, (1, second), (2, third))
 }
 
 fn line_store_1(alloc: Global) -> Result<Store, Memory> {
     let [first, own, third] = all_along();
-    let mut store = Store::start(alloc, 1, &[own], &along_marks())?;
-    let by_0 = shown(alloc, &[first], &along_marks())?;
-    let by_2 = shown(alloc, &[third], &along_marks())?;
-    store.set_ghosts(alloc, &[(0, by_0), (2, by_2)])?;
-    Ok(store)
+    line_store(alloc, 1, own, (0, first), (2, third))
 }
 
 fn line_store_2(alloc: Global) -> Result<Store, Memory> {
     let [first, second, own] = all_along();
-    let mut store = Store::start(alloc, 2, &[own], &along_marks())?;
-    let by_0 = shown(alloc, &[first], &along_marks())?;
-    let by_1 = shown(alloc, &[second], &along_marks())?;
-    store.set_ghosts(alloc, &[(0, by_0), (1, by_1)])?;
-    Ok(store)
+    line_store(alloc, 2, own, (0, first), (1, second))
 }
 
 fn collapses(
@@ -203,21 +211,34 @@ fn of_third(alloc: Global) -> Result<Ascending<Operation>, Memory> {
     collapses(alloc, third, &[second, last])
 }
 
-fn proposed(alloc: Global, store: &Store) -> Result<Ascending<Operation>, Memory> {
-    proposals(alloc, store, &SizeField::uniform(alloc, 64), Kind::Collapse)
+/// Whether a part proposes just these collapses.
+fn proposes(
+    alloc: Global,
+    store: &Store,
+    collapses: &Ascending<Operation>,
+) -> Result<bool, Memory> {
+    let sizes = SizeField::uniform(alloc, 64);
+    let proposed = proposals(alloc, store, &sizes, Kind::Collapse)?;
+    Ok(proposed.as_slice() == collapses.as_slice())
 }
 
-fn first_two_propose(alloc: Global) -> Result<bool, Memory> {
-    let by_0 = proposed(alloc, &line_store_0(alloc)?)?;
-    let by_1 = proposed(alloc, &line_store_1(alloc)?)?;
-    let by_2 = proposed(alloc, &line_store_2(alloc)?)?;
-    let (of_0, of_1) = (of_second(alloc)?, of_third(alloc)?);
-    Ok(by_0.as_slice() == of_0.as_slice() && by_1.as_slice() == of_1.as_slice() && by_2.is_empty())
+fn first_proposes(alloc: Global) -> Result<bool, Memory> {
+    proposes(alloc, &line_store_0(alloc)?, &of_second(alloc)?)
+}
+
+fn second_proposes(alloc: Global) -> Result<bool, Memory> {
+    proposes(alloc, &line_store_1(alloc)?, &of_third(alloc)?)
+}
+
+fn last_proposes_nothing(alloc: Global) -> Result<bool, Memory> {
+    proposes(alloc, &line_store_2(alloc)?, &Ascending::new(alloc))
 }
 
 #[test]
 fn along_a_line_each_part_but_the_last_proposes_for_the_vertex_behind_it(rt: HostRuntime) {
-    assert!(rt; first_two_propose(rt.alloc()) == Ok(true));
+    assert!(rt; first_proposes(rt.alloc()) == Ok(true));
+    assert!(rt; second_proposes(rt.alloc()) == Ok(true));
+    assert!(rt; last_proposes_nothing(rt.alloc()) == Ok(true));
 }
 
 /// All that was proposed.
@@ -233,42 +254,59 @@ fn first_collapse(alloc: Global) -> Result<Ascending<Operation>, Memory> {
     collapses(alloc, second, &[first])
 }
 
-fn votes_along(alloc: Global) -> Result<bool, Memory> {
-    let all = all_proposed(alloc)?;
-    let by_0 = ballots(alloc, &line_store_0(alloc)?, &all)?;
-    let by_1 = ballots(alloc, &line_store_1(alloc)?, &all)?;
-    let by_2 = ballots(alloc, &line_store_2(alloc)?, &all)?;
+/// Whether a part votes for just these collapses of all that were proposed.
+fn votes_for(
+    alloc: Global,
+    store: &Store,
+    collapses: &Ascending<Operation>,
+) -> Result<bool, Memory> {
+    let voted = ballots(alloc, store, &all_proposed(alloc)?)?;
+    Ok(voted.as_slice() == collapses.as_slice())
+}
+
+fn first_votes(alloc: Global) -> Result<bool, Memory> {
+    votes_for(alloc, &line_store_0(alloc)?, &first_collapse(alloc)?)
+}
+
+fn second_votes(alloc: Global) -> Result<bool, Memory> {
+    votes_for(alloc, &line_store_1(alloc)?, &first_collapse(alloc)?)
+}
+
+fn last_votes(alloc: Global) -> Result<bool, Memory> {
     let [_, second, third, _] = line();
-    let (first, other) = (first_collapse(alloc)?, collapses(alloc, third, &[second])?);
-    Ok(
-        by_0.as_slice() == first.as_slice()
-            && by_1.as_slice() == first.as_slice()
-            && by_2.as_slice() == other.as_slice(),
+    votes_for(
+        alloc,
+        &line_store_2(alloc)?,
+        &collapses(alloc, third, &[second])?,
     )
 }
 
-fn first_wins(alloc: Global) -> Result<bool, Memory> {
+/// What a part wins of the collapses that it leads, where it and part 1 vote for the first alone.
+fn won_of(
+    alloc: Global,
+    store: &Store,
+    led: &Ascending<Operation>,
+) -> Result<Ascending<Operation>, Memory> {
     let mine = first_collapse(alloc)?;
     let votes = [(1, first_collapse(alloc)?)];
-    let by_0 = won(
-        alloc,
-        &line_store_0(alloc)?,
-        &of_second(alloc)?,
-        &mine,
-        &votes,
-    )?;
-    let by_1 = won(
-        alloc,
-        &line_store_1(alloc)?,
-        &of_third(alloc)?,
-        &mine,
-        &votes,
-    )?;
-    Ok(by_0.as_slice() == mine.as_slice() && by_1.is_empty())
+    won(alloc, store, led, &mine, &votes)
+}
+
+fn first_wins(alloc: Global) -> Result<bool, Memory> {
+    let won = won_of(alloc, &line_store_0(alloc)?, &of_second(alloc)?)?;
+    Ok(won.as_slice() == first_collapse(alloc)?.as_slice())
+}
+
+fn second_wins_nothing(alloc: Global) -> Result<bool, Memory> {
+    let won = won_of(alloc, &line_store_1(alloc)?, &of_third(alloc)?)?;
+    Ok(won.is_empty())
 }
 
 #[test]
 fn of_two_collapses_with_a_common_tetrahedron_that_of_the_lesser_vertex_is_won(rt: HostRuntime) {
-    assert!(rt; votes_along(rt.alloc()) == Ok(true));
+    assert!(rt; first_votes(rt.alloc()) == Ok(true));
+    assert!(rt; second_votes(rt.alloc()) == Ok(true));
+    assert!(rt; last_votes(rt.alloc()) == Ok(true));
     assert!(rt; first_wins(rt.alloc()) == Ok(true));
+    assert!(rt; second_wins_nothing(rt.alloc()) == Ok(true));
 }
