@@ -9,10 +9,12 @@ use Rattle.letters.specs.declared.letter.Letter.{Letter}
 use Rattle.part_phases.specs.Phases.{after_entering, answer_after, begins_at, begun, entered, gone_on, is_complete, letters_of, moved, phases_left, if_complete}
 use Rattle.part_phases.specs.Standings as phases
 use Rattle.part_phases.proofs.Kept.{opened}
+use Rattle.part_rules.specs.Begins.{begins_with}
 use Rattle.part_rules.specs.Rounds.{rules}
 use Rattle.part_rules.specs.declared.course.Course.{Course}
 use Rattle.part_store.specs.Stores.{StoreState}
 use Rattle.part_core.specs.Parts.{Answers, PartState, is_over, sent}
+use Rattle.part_core.specs.steps.Beginning.{holding, opening}
 use Rattle.part_core.specs.steps.Going.{Came, Ended, Gone, Matches, standing_at, step_after}
 use Rattle.part_core.specs.declared.answers.Step.{Step}
 use Rattle.part_core.specs.declared.answers.Step.TheVariants as steps
@@ -70,16 +72,17 @@ goes_on old next mid new step before between after le full ended within is lette
     subst (λ d. Matches (step_after next.standing.phase step) d old new before after) (sym (ends old next le full ended false more))
     (subst (λ k. Matches (step_after next.standing.phase step) (after_entering r at (gone_on r k (entered r at))) old new before after) left due)
 
--- the round has begun, its first phase is entered, and the part has gone on
-pub came_first : (old first mid gone : PartState) (round n : ℕ) (step : Step) (before empty between letters after : List Letter)
-    → first ≡ record { course = old.course; standing = begins_at (rules old.course) round old.standing; begun = n; spent = old.spent }
+-- the part holds what it begins the round with, its first phase is entered, and the part has gone on
+pub came_first : (old held first mid gone : PartState) (round : ℕ) (step : Step) (before empty between letters after : List Letter)
+    → held ≡ holding old (begins_with old.course.field round old.standing.holds) → first ≡ opening held round
     → mid ≡ standing_at first (entered (rules first.course) first.standing) → empty ≡ [] → between ≡ empty ++ map sent (letters_of (rules first.course) first.standing)
     → Gone step mid gone between letters → after ≡ before ++ letters
-    → Came (step_after 0 step) (begun (rules old.course) round old.standing) n old (record { course = gone.course; standing = gone.standing; begun = gone.begun; spent = is_over (step_after 0 step) }) before after
-came_first old first mid gone round n step before empty between letters after opens is none sends went all =
+    → Came (step_after 0 step) (begun (rules old.course) round old.standing) (round + 1) old (record { course = gone.course; standing = gone.standing; begun = gone.begun; spent = is_over (step_after 0 step) }) before after
+came_first old held first mid gone round step before empty between letters after holds opens is none sends went all =
     let r = rules old.course in
-    let start : PartState = record { course = old.course; standing = begins_at r round old.standing; begun = n; spent = old.spent } in
-    let m : mid ≡ standing_at start (entered r start.standing) = is ∙ ap (λ (p : PartState). standing_at p (entered (rules p.course) p.standing)) opens in
-    let b : between ≡ [] ++ map sent (letters_of r start.standing) = sends ∙ ap (λ (p : PartState). empty ++ map sent (letters_of (rules p.course) p.standing)) opens ∙ ap (λ e. e ++ map sent (letters_of r start.standing)) none in
+    let start : PartState = record { course = old.course; standing = begins_at r round old.standing; begun = round + 1; spent = old.spent } in
+    let starts : first ≡ start = opens ∙ ap (λ (p : PartState). opening p round) holds in
+    let m : mid ≡ standing_at start (entered r start.standing) = is ∙ ap (λ (p : PartState). standing_at p (entered (rules p.course) p.standing)) starts in
+    let b : between ≡ [] ++ map sent (letters_of r start.standing) = sends ∙ ap (λ (p : PartState). empty ++ map sent (letters_of (rules p.course) p.standing)) starts ∙ ap (λ e. e ++ map sent (letters_of r start.standing)) none in
     let h = entering start mid gone step [] between letters m b went in
     (h.0, (ap (λ (p : PartState). record { course = p.course; standing = p.standing; begun = p.begun; spent = is_over (step_after 0 step) }) h.1, all ∙ ap (λ ls. before ++ ls) h.2))

@@ -14,6 +14,7 @@ use part_store::Store;
 use std::alloc::Global;
 use std::marker::Model;
 
+mod beginning;
 mod ending;
 mod going;
 mod sending;
@@ -34,14 +35,14 @@ pub struct Part {
 }
 
 impl Model for Part {
-    ghost use Rattle.std.specs.Prelude.{◌≡◌, ◌<◌, ◌≤◌, None};
+    ghost use Rattle.std.specs.Prelude.{◌≡◌, ◌+◌, ◌<◌, ◌≤◌, None};
     ghost use Rattle.part_core.specs.Parts.{PartState, kept_in};
 
     ghost Value = { PartState };
 
     ghost view = { λ p. record { course = p.course; standing = record { me = p.me; round = p.round; phase = p.phase; holds = p.store; now = p.current; early = p.early; kept = kept_in p.kept }; begun = p.begun; spent = p.spent } };
 
-    ghost invariant = { λ p. (p.me < p.course.parts) × (p.course.parts ≤ 64) × (p.course.grid ≤ 30) × (p.round ≤ p.course.grid) × (p.phase ≤ 3) × (p.phase ≡ 0 → p.kept ≡ None) };
+    ghost invariant = { λ p. (p.me < p.course.parts) × (p.course.parts ≤ 64) × (p.course.grid ≤ 30) × (p.round ≤ p.course.grid) × (p.phase ≤ 3) × (p.phase ≡ 0 → p.kept ≡ None) × (p.begun ≤ p.course.grid + 1) };
 }
 
 impl Part {
@@ -73,8 +74,9 @@ impl Part {
         })
     }
 
-    /// Begins round 0 and appends the letters of its first phase. A part that is alone ends the
-    /// round.
+    /// Begins the next round and appends the letters of its first phase. From round 1 on it first
+    /// refines its own tetrahedra and the marks on their cells by itself. A part that is alone ends
+    /// the round.
     pub fn begin(
         &mut self,
         alloc: Global,
@@ -82,7 +84,6 @@ impl Part {
         out: &mut Vec<Letter>,
     ) -> Result<Step, PartFault>
         requires may { MayBegin self.old round }
-        requires first { round ≡ 0 }
         ensures fault { IsMemory result }
         ensures answer { Answers result (begun (rules self.old.course) round self.old.standing).answer }
         ensures leaves { Leaves result (begun (rules self.old.course) round self.old.standing) (round + 1) self.old self.new out.old.items out.new.items }
@@ -161,6 +162,13 @@ impl Part {
         ensures { result ≡ self.now.standing.round }
     {
         self.round
+    }
+
+    /// How many rounds it has begun. Takes no memory.
+    pub fn begun(&self) -> u32
+        ensures { result ≡ self.now.begun }
+    {
+        self.begun
     }
 
     /// Whether no round runs: it stands past the last phase. Takes no memory.

@@ -1,5 +1,6 @@
 // Values that were worked out by hand, on two tetrahedra with a common face, on the grid of 8: part 0 has the one at the origin, part 1 the other.
-ghost use Rattle.std.specs.Prelude.{◌≡◌, false, IfOk};
+ghost use Rattle.std.specs.Prelude.{◌≡◌, ◌≤◌, false, true, IfOk, OnOk};
+ghost use Rattle.size_marks.specs.Field.{is_size};
 
 use super::*;
 use letters::{Body, Letter, Post};
@@ -21,31 +22,34 @@ fn face() -> [Place; 3] {
     [at(0, 0, 8), at(0, 8, 0), at(8, 0, 0)]
 }
 
-fn course(alloc: Global) -> Course
-    ensures parts { result.parts ≡ 2 }
+fn course(alloc: Global, parts: u8, size: u32) -> Course
+    requires { is_size size ≡ true }
+    ensures parts { result.parts ≡ parts }
     ensures grid { result.grid ≡ 3 }
 {
     Course {
-        parts: 2,
+        parts,
         grid: 3,
         collapse: 0,
         swap: 0,
-        field: SizeField::uniform(alloc, 8),
+        field: SizeField::uniform(alloc, size),
     }
 }
 
 /// Part 0 before its first round.
-fn started(alloc: Global) -> Result<Part, Memory>
-    ensures { IfOk result (λ part. (part.spent ≡ false) × (part.begun ≡ 0) × (part.standing.phase ≡ 3)) }
+fn started(alloc: Global, course: Course) -> Result<Part, Memory>
+    requires parts { (1 ≤ course.parts) × (course.parts ≤ 64) }
+    requires grid { course.grid ≡ 3 }
+    ensures { IfOk result (λ part. (part.spent ≡ false) × (part.begun ≡ 0) × (part.standing.phase ≡ 3) × (part.course.grid ≡ 3)) }
 {
     let [z, y, x] = face();
     let tet = Tet::new([at(0, 0, 0), x, y, z], 0, 0);
-    Part::start(alloc, 0, course(alloc), &[tet.unwrap_or_default()], &[])
+    Part::start(alloc, 0, course, &[tet.unwrap_or_default()], &[])
 }
 
 /// Begins round 0.
 fn begin(alloc: Global, out: &mut Vec<Letter>) -> Result<Part, PartFault> {
-    let mut part = match started(alloc) {
+    let mut part = match started(alloc, course(alloc, 2, 8)) {
         Ok(part) => part,
         Err(_) => return Err(PartFault::Memory),
     };
@@ -152,4 +156,71 @@ fn refuses(alloc: Global, place: Place) -> Result<bool, PartFault> {
 #[test]
 fn a_letter_with_a_place_off_the_grid_changes_nothing(rt: HostRuntime) {
     assert!(rt; refuses(rt.alloc(), at(4, 0, 0)) == Ok(true));
+}
+
+/// Begins a round, if it is the next one.
+fn begin_next(
+    alloc: Global,
+    part: &mut Part,
+    round: u32,
+    out: &mut Vec<Letter>,
+) -> Result<Step, PartFault>
+    requires { round ≤ part.old.course.grid }
+    ensures { OnOk result (part.new.course ≡ part.old.course) }
+{
+    if part.is_spent() || !part.is_done() || part.begun() != round {
+        return Ok(Step::Waiting);
+    }
+    part.begin(alloc, round, out)
+}
+
+/// A part alone, all of whose edges are long, after its rounds 0 and 1.
+fn alone(alloc: Global) -> Result<Part, PartFault> {
+    let mut part = match started(alloc, course(alloc, 1, 4)) {
+        Ok(part) => part,
+        Err(_) => return Err(PartFault::Memory),
+    };
+    let mut out = Vec::new(alloc);
+    begin_next(alloc, &mut part, 0, &mut out)?;
+    begin_next(alloc, &mut part, 1, &mut out)?;
+    Ok(part)
+}
+
+/// The tetrahedron at the origin in halves at the edges of its greatest face, and these in halves at
+/// the edges on the axes.
+fn eight() -> [[Place; 4]; 8] {
+    let (o, [z, y, x]) = (at(0, 0, 0), face());
+    let (oz, oy, ox) = (at(0, 0, 4), at(0, 4, 0), at(4, 0, 0));
+    let (zy, zx, yx) = (at(0, 4, 4), at(4, 0, 4), at(4, 4, 0));
+    [
+        [o, oz, zy, zx],
+        [o, oy, zy, yx],
+        [o, zy, ox, zx],
+        [o, zy, ox, yx],
+        [oz, z, zy, zx],
+        [oy, zy, y, yx],
+        [zy, ox, zx, x],
+        [zy, ox, yx, x],
+    ]
+}
+
+fn is_in_eight(alloc: Global, part: &Part) -> Result<bool, Memory> {
+    let mut corners = Vec::new(alloc);
+    for tet in part.store().own_tets(alloc)?.as_slice() {
+        corners.push(tet.corners())?;
+    }
+    Ok(corners.as_slice() == eight().as_slice())
+}
+
+fn has_eight_pieces(alloc: Global) -> Result<bool, PartFault> {
+    let part = alone(alloc)?;
+    match is_in_eight(alloc, &part) {
+        Ok(is) => Ok(is),
+        Err(_) => Err(PartFault::Memory),
+    }
+}
+
+#[test]
+fn a_part_alone_refines_its_tetrahedron_at_the_start_of_round_one(rt: HostRuntime) {
+    assert!(rt; has_eight_pieces(rt.alloc()) == Ok(true));
 }

@@ -1,3 +1,4 @@
+pub mod Begins
 pub mod Bodies
 pub mod Ends
 pub mod Rounds

@@ -1,4 +1,4 @@
--- The rules of a round: what a part sends in each phase, and what the letters of the phase leave.
+-- The rules of a round: what a part begins with, what it sends in each phase, and what the letters of the phase leave.
 use Rattle.std.specs.Prelude.{ℕ, zero, suc, ◌-◌, ◌==◌, List, [], ◌∷◌, Result, Ok, if◌then◌else◌}
 use Rattle.ma_geom.specs.Coordinates.{Coordinates}
 use Rattle.ma_cells.specs.declared.batch.Batch.{Batch}
@@ -10,6 +10,7 @@ use Rattle.ghost_layer.specs.GhostRule.{batch_of, ghosts_for}
 use Rattle.part_phases.specs.Inboxes.{Inbox}
 use Rattle.part_phases.specs.Standings.{Rules, Standing}
 use Rattle.part_store.specs.Stores.{StoreState}
+use Rattle.part_rules.specs.Begins.{begins_with}
 use Rattle.part_rules.specs.Bodies.{batches_in, first_off, is_of_phase, places_of, posts_in, replies_in}
 use Rattle.part_rules.specs.Ends.{after_ghosts, after_posts, after_replies}
 use Rattle.part_rules.specs.declared.course.Course.{Course}
@@ -42,7 +43,7 @@ rules course = record {
   last = λ round. 2;
   fits = is_of_phase;
   wrong = λ round body. first_off (course.grid - round) (places_of body);
-  begins = λ round part. part.holds;
+  begins = λ round part. begins_with course.field round part.holds;
   sends = λ part q. body_for (home_of (course.grid - part.round) course.parts) part.phase part q;
   ends = λ part. left_by part.phase part;
   keeps = λ part. part.phase == 0;

@@ -14,6 +14,7 @@ use Rattle.ma_cells.proofs.CellOrders.{mark_cmp_total, mark_cmp-IsAntisymmetric,
 use Rattle.size_marks.specs.Field.{Field}
 use Rattle.refinement.specs.Refinement.{refine, refined_mark, refined_tet}
 use Rattle.ghost_layer.specs.GhostRule.{batch_of}
+use Rattle.part_rules.specs.Begins.{refined_store}
 use Rattle.part_rules.specs.Owed.{AreCarried, IsLabelled, holding}
 use Rattle.part_store.specs.Labelled.{LabelledMesh, ghosts_of, marks_on, own_of, seen_by, tet_of, view_of}
 use Rattle.part_store.specs.Stores.{StoreState, started, view_in}
@@ -21,7 +22,7 @@ use Rattle.part_store.proofs.Agreeing.{in-own}
 use Rattle.part_store.proofs.Members.{In, all-in, all-from_in, in-append_left, in-filter, from-filter, filter-all, filter-filter, from-map, is_made}
 use Rattle.view_laws.proofs.MeshItems.{from-on, in-marks, is-cell, label-below, on-from, on-more}
 use Rattle.refined_views.specs.Laws.{RefinedMarksAreCarried, RefinedStores}
-use Rattle.refined_views.specs.Refined.{carried_pieces, refined_labelled, refined_store}
+use Rattle.refined_views.specs.Refined.{carried_pieces, refined_labelled}
 use Rattle.refined_views.proofs.PieceMarks.{from-mark_pieces, in-mark_pieces, piece-on, pieces}
 use Rattle.refined_views.proofs.RefinedItems.{own_is}
 use Rattle.refined_views.proofs.RefinedMesh.{own_not_flat}

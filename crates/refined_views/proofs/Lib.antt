@@ -5,3 +5,4 @@ pub mod Eightfold
 pub mod Beginnings
 pub mod NextMesh
 pub mod NextRound
+pub mod AsMany

@@ -9,6 +9,7 @@ use Rattle.part_phases.specs.Inboxes.{below}
 use Rattle.part_phases.specs.Standings.{Standing}
 use Rattle.part_rules.specs.Ends.{most_tets}
 use Rattle.part_rules.specs.Owed.{IsLabelled}
+use Rattle.part_rules.specs.Rounds.{rules}
 use Rattle.part_rules.specs.declared.course.Course.{Course}
 use Rattle.part_store.specs.Labelled.{LabelledMesh, tet_of}
 use Rattle.part_store.specs.Stores.{StoreState, view_in}
@@ -20,7 +21,7 @@ use Rattle.view_laws.specs.Truths.{IsShared, mesh_truth}
 use Rattle.view_laws.specs.Views.{first_standing}
 use Rattle.view_laws.proofs.FirstRound.{begin_so, carried, is_shared}
 use Rattle.view_laws.proofs.Following.{follows_mesh}
-use Rattle.refined_views.specs.LaterRounds.{EndsInViews, HaveViews, RefiningRoundEndsInViews, RoundsEndInViews, after_round, refining, round_of}
+use Rattle.refined_views.specs.LaterRounds.{EndsInViews, HaveViews, RefiningRoundEndsInViews, RoundsEndInViews, after_round, round_of}
 use Rattle.refined_views.specs.Refined.{carried_pieces, refined_labelled}
 use Rattle.refined_views.specs.Repeated.{refined_times}
 use Rattle.refined_views.proofs.Beginnings.{store_is}
@@ -30,19 +31,16 @@ module _ (course : Course) (mesh : LabelledMesh) (carried : ℕ → List CellMar
   abbrev truth : Truth StoreState Body
   truth = mesh_truth course mesh carried round
 
-  -- how a round begins is no concern of what follows in it
-  follows : Follows (refining course) truth
-  follows =
-      let next = follows_mesh course mesh carried round shared few in
-      record { sends = next.sends; upto = next.upto; outcomes = next.outcomes; final = next.final; ends = next.ends; keeps = next.keeps; fits = next.fits; right = next.right }
+  follows : Follows (rules course) truth
+  follows = follows_mesh course mesh carried round shared few
 
   -- what begins as the mesh says ends so
-  ends_in_views : (default : Standing StoreState Body) (parts : List (Standing StoreState Body)) → BeginSo (refining course) truth default parts → (picks : List ℕ)
+  ends_in_views : (default : Standing StoreState Body) (parts : List (Standing StoreState Body)) → BeginSo (rules course) truth default parts → (picks : List ℕ)
       → EndsInViews course mesh default (round_of course round picks parts)
   ends_in_views default parts begin picks =
       let n = course.parts * (3 * (course.parts - 1)) in
-      let ended = all_end_whatever_is_drawn (refining course) truth default parts follows begin n picks (omega arith) in
-      let right = turns_stay_right (refining course) truth default follows n picks (all_begun (refining course) round parts) (start_is_right (refining course) truth default parts follows begin) in
+      let ended = all_end_whatever_is_drawn (rules course) truth default parts follows begin n picks (omega arith) in
+      let right = turns_stay_right (rules course) truth default follows n picks (all_begun (rules course) round parts) (start_is_right (rules course) truth default parts follows begin) in
       record {
         none_waits = ended.0;
         done = λ q within. (ended.1 q within).0;
@@ -56,7 +54,7 @@ module _ (course : Course) (mesh : LabelledMesh) (carried : ℕ → List CellMar
 -- the parts begin a round past the first so
 begin_next : (course : Course) (mesh : LabelledMesh) (round : ℕ) → IsLabelled course.parts mesh → are_tetrahedra (map tet_of mesh.tets) ≡ true
     → (default : Standing StoreState Body) (parts : List (Standing StoreState Body)) → HaveViews course mesh default parts
-    → BeginSo (refining course) (mesh_truth course (refined_labelled course.field mesh) (carried_pieces course.field mesh) (suc round)) default parts
+    → BeginSo (rules course) (mesh_truth course (refined_labelled course.field mesh) (carried_pieces course.field mesh) (suc round)) default parts
 begin_next course mesh round right solid default parts views = record {
   all = views.all;
   numbers = views.numbers;
@@ -72,9 +70,8 @@ refining_round_ends_in_views course mesh round finer some right solid tets marks
 -- ---- all rounds
 pub rounds_end_in_views : RoundsEndInViews
 rounds_end_in_views course mesh zero upto some right solid tets marks few default picks =
-    let first = begin_so course mesh some right default in
     ends_in_views course mesh (carried course mesh some right) 0 (is_shared course mesh some right tets marks) (few 0 (omega arith)) default (map (first_standing mesh) (below course.parts))
-    (record { all = first.all; numbers = first.numbers; holds = first.holds; kept = first.kept }) (picks 0)
+    (begin_so course mesh some right default) (picks 0)
 rounds_end_in_views course mesh (suc n) upto some right solid tets marks few default picks =
     let last = refined_times n course.field mesh in
     let before = rounds_end_in_views course mesh n (omega arith) some right solid tets marks (λ round within. few round (omega arith)) default picks in

@@ -28,7 +28,7 @@ sorted-labelled p [] s = tt
 sorted-labelled p (t ∷ ts) s =
     (all-map (λ u. tet_cmp t u ≡ Less) (λ e. ghost_cmp (t, p) e ≡ Less) (λ u. (u, p)) (λ u less. ap (λ o. ordering_then o (nat_cmp p p)) less) ts s.0, sorted-labelled p ts s.1)
 
-without-label : (p : ℕ) (ts : List Tetrahedron) → map tet_of (labelled p ts) ≡ ts
+pub without-label : (p : ℕ) (ts : List Tetrahedron) → map tet_of (labelled p ts) ≡ ts
 without-label p [] = refl
 without-label p (t ∷ ts) = ap (λ r. t ∷ r) (without-label p ts)
 

@@ -1,12 +1,10 @@
 -- Rounds that each part begins by refining its own of the mesh, but for the first.
 use Rattle.std.specs.Prelude.{◌≡◌, ◌-◌, ◌*◌, ◌<◌, ◌≤◌, ℕ, zero, suc, true, List, [], length, map}
-use Rattle.ma_geom.specs.Coordinates.{Coordinates}
 use Rattle.ma_cells.specs.Grid.{are_on_grid, marks_are_on_grid}
 use Rattle.ma_cells.specs.Tetrahedron.{are_tetrahedra}
-use Rattle.size_marks.specs.Field.{Field}
 use Rattle.letters.specs.declared.letter.Body.{Body}
 use Rattle.part_phases.specs.Inboxes.{below}
-use Rattle.part_phases.specs.Standings.{Rules, Standing}
+use Rattle.part_phases.specs.Standings.{Standing}
 use Rattle.part_rules.specs.Ends.{most_tets}
 use Rattle.part_rules.specs.Owed.{IsLabelled}
 use Rattle.part_rules.specs.Rounds.{rules}
@@ -15,21 +13,12 @@ use Rattle.part_store.specs.Labelled.{LabelledMesh, tet_of, view_of}
 use Rattle.part_store.specs.Stores.{StoreState, view_in}
 use Rattle.phase_laws.specs.Drawing.{Drawing, all_begun, part_at, turns}
 use Rattle.view_laws.specs.Views.{first_standing}
-use Rattle.refined_views.specs.Refined.{refined_labelled, refined_store}
+use Rattle.refined_views.specs.Refined.{refined_labelled}
 use Rattle.refined_views.specs.Repeated.{refined_times}
-
--- what a part holds that begins a round: in round 0 what it has, and in a later round that refined
-abbrev pub begins_with : Field → ℕ → StoreState → StoreState
-begins_with field zero s = s
-begins_with field (suc round) s = refined_store field s
-
--- the rules of rounds that each part begins so
-abbrev pub refining : Course → Rules StoreState Body Coordinates
-refining course = record (rules course) { begins = λ round part. begins_with course.field round part.holds }
 
 -- the end of a round of these parts, in which letters are drawn by these picks until each part could get all of its letters
 abbrev pub round_of : Course → ℕ → List ℕ → List (Standing StoreState Body) → Drawing StoreState Body
-round_of course round picks parts = turns (refining course) (course.parts * (3 * (course.parts - 1))) picks (all_begun (refining course) round parts)
+round_of course round picks parts = turns (rules course) (course.parts * (3 * (course.parts - 1))) picks (all_begun (rules course) round parts)
 
 -- the end of this round of the parts that start with their tetrahedra of a mesh, where each round has picks of its own
 abbrev pub after_round : Course → LabelledMesh → (ℕ → List ℕ) → ℕ → Drawing StoreState Body

@@ -9,12 +9,13 @@ use Rattle.ma_cells.specs.Tetrahedron.{Tetrahedron, are_corners, are_tetrahedra}
 use Rattle.ma_cells.specs.declared.cell.Cell.{Cell}
 use Rattle.size_marks.specs.Field.{Field}
 use Rattle.refinement.specs.Refinement.{refine, refined_cell, refined_tet}
+use Rattle.part_rules.specs.Begins.{refined_store}
 use Rattle.part_rules.specs.Owed.{AreCarried, IsLabelled, holding}
 use Rattle.part_rules.specs.declared.course.Course.{Course}
 use Rattle.part_store.specs.Labelled.{LabelledMesh, tet_of, view_of}
 use Rattle.part_store.specs.Stores.{StoreState, view_in}
 use Rattle.view_laws.specs.Truths.{IsShared}
-use Rattle.refined_views.specs.Refined.{carried_pieces, refined_labelled, refined_store, without_labels}
+use Rattle.refined_views.specs.Refined.{carried_pieces, refined_labelled, without_labels}
 
 -- the pieces of a cell are cells of the pieces of each tetrahedron that has the cell
 abbrev pub PiecesLieOnPieces : Type 0

@@ -1,4 +1,4 @@
--- A labelled mesh that is refined, and a part that refines its own of it by itself.
+-- A labelled mesh that is refined.
 use Rattle.std.specs.Prelude.{ℕ, List, map}
 use Rattle.std.specs.List.{flat_map}
 use Rattle.ma_cells.specs.Ascending.{ascending_of}
@@ -10,7 +10,6 @@ use Rattle.size_marks.specs.Field.{Field}
 use Rattle.refinement.specs.Refinement.{refine, refined_mark, refined_tet}
 use Rattle.ghost_layer.specs.GhostRule.{batch_of}
 use Rattle.part_store.specs.Labelled.{LabelledMesh, label_of, labelled, own_of, tet_of}
-use Rattle.part_store.specs.Stores.{StoreState, started}
 
 -- the pieces of a tetrahedron, each with its label
 abbrev pub refined_entry : Field → Tetrahedron × ℕ → List (Tetrahedron × ℕ)
@@ -30,7 +29,3 @@ without_labels mesh = record { tets = ascending_of tet_cmp (map tet_of mesh.tets
 -- what a part carries of a refined mesh: the pieces of all marks that stood on cells of its tetrahedra
 abbrev pub carried_pieces : Field → LabelledMesh → ℕ → List CellMark
 carried_pieces field mesh part = (refine field (batch_of (own_of mesh part) mesh.marks)).marks
-
--- the store of a part that refines its own tetrahedra and the marks on their cells by itself, with no ghosts and no shared places
-abbrev pub refined_store : Field → StoreState → StoreState
-refined_store field s = let pieces : Batch = refine field (batch_of s.own s.marks) in started s.part pieces.tets pieces.marks

@@ -1,5 +1,5 @@
 -- A labelled mesh that is refined any number of times.
-use Rattle.std.specs.Prelude.{◌≡◌, ◌≤◌, ℕ, zero, suc, true, List, map}
+use Rattle.std.specs.Prelude.{◌≡◌, ◌≤◌, ℕ, zero, suc, true, List, length, map}
 use Rattle.std.specs.Fn.{iterate}
 use Rattle.ma_cells.specs.Cells.{CellMark}
 use Rattle.ma_cells.specs.Grid.{are_on_grid, marks_are_on_grid}
@@ -30,6 +30,11 @@ RefinedTimesIsRefinement = (field : Field) (mesh : LabelledMesh) (n : ℕ) → w
 -- and adapted, if the mesh is sound: sound, with the same cover and classification
 abbrev pub RefinedTimesIsAdapted : Type 0
 RefinedTimesIsAdapted = (field : Field) (mesh : LabelledMesh) (n : ℕ) → IsSoundMesh (without_labels mesh) → IsAdapted (without_labels mesh) (without_labels (refined_times n field mesh))
+
+-- and it has as many tetrahedra as without its labels, if the mesh is sound and has: no tetrahedron comes to have two labels
+abbrev pub RefinedTimesIsAsMany : Type 0
+RefinedTimesIsAsMany = (field : Field) (mesh : LabelledMesh) (n : ℕ) → IsSoundMesh (without_labels mesh) → length mesh.tets ≡ length (without_labels mesh).tets
+    → length (refined_times n field mesh).tets ≡ length (without_labels (refined_times n field mesh)).tets
 
 -- parts that share a mesh in round 0 share the mesh that is refined once for each later round, as long as the grid can be halved
 abbrev pub RefinedTimesIsShared : Type 0

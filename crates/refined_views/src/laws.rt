@@ -13,6 +13,7 @@ ghost use Rattle.refined_views.specs.Laws.{
 ghost use Rattle.refined_views.specs.LaterRounds.{RefiningRoundEndsInViews, RoundsEndInViews};
 ghost use Rattle.refined_views.specs.Repeated.{
   RefinedTimesIsAdapted,
+  RefinedTimesIsAsMany,
   RefinedTimesIsRefinement,
   RefinedTimesIsShared,
 };
@@ -70,6 +71,11 @@ pub fn refined_times_is_refinement()
 /// So a sound mesh is adapted, whatever its labels.
 pub fn refined_times_is_adapted()
     ensures { RefinedTimesIsAdapted }
+{}
+
+/// And it has as many tetrahedra as without its labels.
+pub fn refined_times_is_as_many()
+    ensures { RefinedTimesIsAsMany }
 {}
 
 /// And the laws of a round hold of each round that the grid allows.

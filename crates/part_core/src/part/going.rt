@@ -1,12 +1,11 @@
 // How a part goes from phase to phase.
-ghost use Rattle.std.specs.Prelude.{◌≡◌, ◌+◌, ◌-◌, ◌<◌, ◌≤◌, IfOk, OnErr, OnOk};
+ghost use Rattle.std.specs.Prelude.{◌≡◌, ◌<◌, ◌≤◌, IfOk, OnErr, OnOk};
 ghost use Rattle.part_core.specs.Parts.{PartState, is_over, taken};
 ghost use Rattle.part_core.specs.steps.Going.{Came, Gone, standing_at, step_after};
-ghost use Rattle.part_phases.specs.Phases.{begins_at, begun, gone_on, is_complete, is_owed, phases_left, with_letter};
+ghost use Rattle.part_phases.specs.Phases.{gone_on, is_complete, is_owed, phases_left, with_letter};
 ghost use Rattle.part_rules.specs.Rounds.{rules};
 
 use crate::answers::Step;
-use crate::inbox::Inbox;
 use crate::part::Part;
 use letters::Letter;
 use ma_geom::Memory;
@@ -17,7 +16,7 @@ use std::alloc::Global;
 const LAST_PHASE: u32 = 2;
 
 /// The answer of a part that entered a phase and then gave this one.
-fn step_after(phase: u32, step: Step) -> Step
+pub(crate) fn step_after(phase: u32, step: Step) -> Step
     ensures { result ≡ step_after phase step }
 {
     match step {
@@ -69,7 +68,7 @@ impl Part {
     }
 
     /// Goes on as far as the letters at hand allow.
-    fn go_on(&mut self, alloc: Global, out: &mut Vec<Letter>) -> Result<Step, Memory>
+    pub(crate) fn go_on(&mut self, alloc: Global, out: &mut Vec<Letter>) -> Result<Step, Memory>
         requires { self.old.standing.phase ≤ 2 }
         ensures { IfOk result (λ step. Gone step self.old self.new out.old.items out.new.items) }
     {
@@ -91,7 +90,7 @@ impl Part {
     }
 
     /// A part that found too many tetrahedra is spent.
-    fn close(&mut self, step: Step)
+    pub(crate) fn close(&mut self, step: Step)
         ensures { self.new ≡ record { course = self.old.course; standing = self.old.standing; begun = self.old.begun; spent = is_over step } }
     {
         self.spent = is_over(step);
@@ -113,40 +112,6 @@ impl Part {
         let mut letters = Vec::new(alloc);
         self.take_in(letter)?;
         let step = self.go_on(alloc, &mut letters)?;
-        out.append(&mut letters)?;
-        self.close(step);
-        Ok(step)
-    }
-
-    /// Stands in the first phase of a round, without a body.
-    fn open(&mut self, alloc: Global, round: u32)
-        requires { round ≤ self.old.course.grid }
-        ensures { self.new ≡ record { course = self.old.course; standing = begins_at (rules self.old.course) round self.old.standing; begun = round + 1; spent = self.old.spent } }
-    {
-        self.round = round;
-        self.phase = 0;
-        self.current = Inbox::new(alloc);
-        self.early = Inbox::new(alloc);
-        self.kept = None;
-        self.begun = round + 1;
-    }
-
-    /// Begins a round, and goes on. Its letters are appended at the end.
-    pub(crate) fn begin_round(
-        &mut self,
-        alloc: Global,
-        round: u32,
-        out: &mut Vec<Letter>,
-    ) -> Result<Step, Memory>
-        requires { round ≤ self.old.course.grid }
-        ensures ok { IfOk result (λ step. Came step (begun (rules self.old.course) round self.old.standing) (round + 1) self.old self.new out.old.items out.new.items) }
-        ensures err { OnErr result (out.new.items ≡ out.old.items) }
-    {
-        let mut letters = Vec::new(alloc);
-        self.open(alloc, round);
-        self.enter(alloc, &mut letters)?;
-        let gone = self.go_on(alloc, &mut letters)?;
-        let step = step_after(0, gone);
         out.append(&mut letters)?;
         self.close(step);
         Ok(step)

@@ -14,5 +14,5 @@ returns-clause-ok c =
     let due = begun (rules old.course) c.args.round old.standing in
     subst (λ (p : PartState). Came c.step_after-step.result due n old p c.args.out.now.items c.append.new.self.items) (sym c.close.ensures)
     (subst (λ step. Came step due n old (record { course = gone.course; standing = gone.standing; begun = gone.begun; spent = is_over step }) c.args.out.now.items c.append.new.self.items) (sym c.step_after-step.ensures)
-    (came_first old c.open.new.self c.enter.new.self gone c.args.round n c.in_ok-gone.gone c.args.out.now.items c.new-letters.result.items c.enter.new.out.items c.go_on.new.out.items c.append.new.self.items
-    c.open.ensures c.in_ok-enter.ensures.entered c.new-letters.ensures.items c.in_ok-enter.ensures.sent c.in_ok-gone.ensures c.in_ok-append.ensures.items))
+    (came_first old c.refine_for.new.self c.open.new.self c.enter.new.self gone c.args.round c.in_ok-gone.gone c.args.out.now.items c.new-letters.result.items c.enter.new.out.items c.go_on.new.out.items c.append.new.self.items
+    c.in_ok-refine_for.ensures c.open.ensures c.in_ok-enter.ensures.entered c.new-letters.ensures.items c.in_ok-enter.ensures.sent c.in_ok-gone.ensures c.in_ok-append.ensures.items))
