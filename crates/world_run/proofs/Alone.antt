@@ -1,31 +1,33 @@
--- One part ends the round by itself.
-use Rattle.std.proofs.Common.{◌≡◌, ◌≤◌, ℕ, true, false, List, [], ◌∷◌, ◌++◌, Option, Some, None, Ok, length, inl, inr, refl, sym, ap, subst, ◌∙◌, arith}
-use Rattle.std.specs.Prelude.{map}
+-- One part ends the round by itself, or finds too many tetrahedra as it begins it.
+use Rattle.std.proofs.Common.{◌≡◌, ◌≤◌, ◌<◌, ℕ, List, [], ◌∷◌, ◌++◌, Option, Some, None, Ok, Err, is_ok, length, inl, inr, refl, sym, ap, subst, ◌∙◌, arith}
+use Rattle.std.specs.Prelude.{map, Result}
 use Rattle.std.specs.List.{AllByRecursion}
-use Rattle.std.proofs.lemmas.Bool.{cases_lt}
-use Rattle.ma_cells.specs.Grid.{are_on_grid, marks_are_on_grid}
+use Rattle.std.proofs.lemmas.Bool.{cases_lt, false≢true}
+use Rattle.ma_cells.specs.Cells.{CellMark}
 use Rattle.carrier.specs.Carried.{Carried}
-use Rattle.directory.specs.Posting.{most_told}
 use Rattle.letters.specs.declared.letter.Body.{Body}
 use Rattle.letters.specs.declared.letter.Letter.{Letter}
 use Rattle.part_core.specs.Parts.{PartState, taken}
 use Rattle.part_phases.specs.Standings as phases
 use Rattle.part_rules.specs.Ends.{most_tets}
-use Rattle.part_rules.specs.Owed.{IsLabelled}
 use Rattle.part_rules.specs.Rounds.{rules}
 use Rattle.part_rules.specs.declared.course.Course.{Course}
-use Rattle.part_store.specs.Labelled.{LabelledMesh, tet_of}
+use Rattle.part_store.specs.Labelled.{LabelledMesh}
 use Rattle.part_store.specs.Stores.{StoreState}
-use Rattle.phase_laws.specs.Drawing.{Drawing, IsRight, turns}
-use Rattle.phase_laws.specs.Truth.{Follows, IsTrueLetter, Truth}
-use Rattle.world_run.specs.Drawn.{EndsAlone, SeeMesh, letter_count}
-use Rattle.world_run.specs.Replay.{begun_parts, first_waiting}
-use Rattle.world_run.specs.declared.fault.RunFault.TheVariants.{Starved}
-use Rattle.world_run.specs.steps.Beginning.{AreUnspent, letters_begun}
-use Rattle.world_run.specs.steps.Drawing.{GoesAlong}
-use Rattle.world_run.proofs.Closing.{not_done, sees_mesh}
+use Rattle.phase_laws.specs.Truth.{IsTrueLetter, Truth}
+use Rattle.world_run.specs.Drawn.{EndsAlone, letter_count}
+use Rattle.world_run.specs.Replay.{all_next, first_waiting}
+use Rattle.world_run.specs.Rounds.{SeeMesh}
+use Rattle.world_run.specs.Told.{WorldState}
+use Rattle.world_run.specs.declared.fault.RunFault.{RunFault}
+use Rattle.world_run.specs.declared.fault.RunFault.TheVariants.{BadLetter, Link, Memory, Over, Starved}
+use Rattle.world_run.specs.steps.Beginning.{AreUnspent, letters_next}
+use Rattle.world_run.specs.steps.Drawing.{BeginRight, GoesAlong, RestsAlone, opening}
+use Rattle.world_run.specs.steps.Turns.{Rests}
+use Rattle.world_run.proofs.Closing.{BeginOn, drawing_at, few_begin, few_is, many_begin, many_is, not_done, sees_mesh}
+use Rattle.world_run.proofs.Excesses.{in_err}
 use Rattle.world_run.proofs.Handings.{none_waits}
-use Rattle.world_run.proofs.Opening.{first_drawing, follows_mesh_is, follows_over_is, mesh_is, mesh_right, opens, over_is, over_right}
+use Rattle.world_run.proofs.Opening.{opening_right, opens, standings_are}
 use Rattle.world_run.proofs.Turning.{turn_ends}
 
 -- a carrier that tells all, and nothing happened with it
@@ -49,58 +51,75 @@ none_mapped : (letters : List Letter) → map taken letters ≡ [] → letters �
 none_mapped [] none = refl
 none_mapped (letter ∷ letters) none = let long = ap length none in absurd (omega (arith, long))
 
-module _ (course : Course) (mesh : LabelledMesh) (some : 1 ≤ course.parts) (labelled : IsLabelled course.parts mesh)
-    (tets : are_on_grid course.grid (map tet_of mesh.tets) ≡ true) (marks : marks_are_on_grid course.grid mesh.marks ≡ true) (default : phases.Standing StoreState Body)
-    (one : course.parts ≡ 1) (unspent : AreUnspent (begun_parts course mesh)) where
-  abbrev few_is : Truth StoreState Body
-  few_is = mesh_is course mesh some labelled tets marks default
-
-  abbrev many_is : Truth StoreState Body
-  many_is = over_is course mesh some labelled tets marks default
-
+-- ---- over any truth of the round
+module _ (course : Course) (truth : Truth StoreState Body) (default : phases.Standing StoreState Body) (parts : List PartState) (one : course.parts ≡ 1) (begin : BeginRight course truth default parts) (unspent : AreUnspent (all_next parts)) where
   -- it is done once it has begun
-  rests_so : (truth : Truth StoreState Body) → Follows (rules course) truth → IsRight (rules course) truth default (first_drawing course mesh) → first_waiting (begun_parts course mesh) ≡ None
-  rests_so truth follows right =
-      let along : GoesAlong course truth default [] silent (begun_parts course mesh) (letters_begun course mesh) (first_drawing course mesh) = opens course mesh truth default follows right silent [] refl refl unspent in
-      let both : along.older ++ letters_begun course mesh ≡ [] = none_mapped (along.older ++ letters_begun course mesh) (sym along.waiting ∙ none_true course truth one (first_drawing course mesh).waiting right.1.all_true) in
-      let none : letters_begun course mesh ≡ [] = none_behind along.older (letters_begun course mesh) both in
-      let alone : GoesAlong course truth default [] silent (begun_parts course mesh) [] (first_drawing course mesh) = subst (λ sent. GoesAlong course truth default [] silent (begun_parts course mesh) sent (first_drawing course mesh)) none along in
-      none_first (first_waiting (begun_parts course mesh)) refl alone
+  pub rests_first : first_waiting (all_next parts) ≡ None
+  rests_first =
+      let right = opening_right course truth default parts begin in
+      let along : GoesAlong course truth default [] silent (all_next parts) (letters_next parts) (opening course truth default parts) = opens course truth default parts begin silent [] refl refl unspent in
+      let both : along.older ++ letters_next parts ≡ [] = none_mapped (along.older ++ letters_next parts) (sym along.waiting ∙ none_true course truth one (opening course truth default parts).waiting right.1.all_true) in
+      let none : letters_next parts ≡ [] = none_behind along.older (letters_next parts) both in
+      let alone : GoesAlong course truth default [] silent (all_next parts) [] (opening course truth default parts) = subst (λ sent. GoesAlong course truth default [] silent (all_next parts) sent (opening course truth default parts)) none along in
+      none_first (first_waiting (all_next parts)) refl alone
     where
-      none_first : (first : Option (ℕ × ℕ)) → first_waiting (begun_parts course mesh) ≡ first → GoesAlong course truth default [] silent (begun_parts course mesh) [] (first_drawing course mesh) → first_waiting (begun_parts course mesh) ≡ None
+      none_first : (first : Option (ℕ × ℕ)) → first_waiting (all_next parts) ≡ first → GoesAlong course truth default [] silent (all_next parts) [] (opening course truth default parts) → first_waiting (all_next parts) ≡ None
       none_first None is alone = is
       none_first (Some first) is alone =
-          absurd (turn_ends course truth default follows ℕ ℕ [] silent silent (begun_parts course mesh) (begun_parts course mesh) [] [] (first_drawing course mesh) [] [] 0 first (Starved 0 0) alone refl refl tt is (tt, refl))
+          absurd (turn_ends course truth default begin.follows ℕ ℕ [] silent silent (all_next parts) (all_next parts) [] [] (opening course truth default parts) [] [] 0 first (Starved 0 0) alone refl refl tt is (tt, refl))
 
-  pub rests_alone : length mesh.tets ≤ most_told → first_waiting (begun_parts course mesh) ≡ None
-  rests_alone told = elim (cases_lt most_tets (length mesh.tets)) as (λ _. first_waiting (begun_parts course mesh) ≡ None) [
-    | inl many ↦ rests_so many_is (follows_over_is course mesh some labelled tets marks default many told) (over_right course mesh some labelled tets marks default many told)
-    | inr few ↦ rests_so few_is (follows_mesh_is course mesh some labelled tets marks default few) (mesh_right course mesh some labelled tets marks default few)
+  pub rests_alone : (new : List PartState) (before now : Carried) (result : Result ℕ RunFault) → Rests (all_next parts) new before now result → RestsAlone course truth default parts new before now result
+  rests_alone new before now (Ok letters) rests = (rests.1, rests.0, none_waits (all_next parts) rests_first)
+  rests_alone new before now (Err fault) rests = absurd rests
+
+-- ---- over a mesh
+module _ (course : Course) (mesh : LabelledMesh) (carried : ℕ → List CellMark) (round : ℕ) (default : phases.Standing StoreState Body) (parts : List PartState) (on : BeginOn course mesh carried round default parts) (one : course.parts ≡ 1)
+    (new : List PartState) (old now : Carried) where
+  abbrev pub RestsSo : Result ℕ RunFault → Type 0
+  RestsSo result = (truth : Truth StoreState Body) → BeginRight course truth default parts → RestsAlone course truth default parts new old now result
+
+  few_err : length mesh.tets ≤ most_tets → (fault : RunFault) → RestsAlone course (few_is course mesh carried round default parts on) default parts new old now (Err fault) → EndsAlone round mesh (all_next parts) old now (Err fault)
+  few_err few Link rests = rests
+  few_err few (BadLetter bytes) rests = rests
+  few_err few (Starved part phase) rests = rests
+  few_err few (Over over stage count) rests = absurd (false≢true (sym (ap is_ok rests.1.2.2)))
+  few_err few Memory rests = tt
+
+  many_err : most_tets < length mesh.tets → (fault : RunFault) → RestsAlone course (many_is course mesh carried round default parts on) default parts new old now (Err fault) → EndsAlone round mesh (all_next parts) old now (Err fault)
+  many_err many Link rests = rests
+  many_err many (BadLetter bytes) rests = rests
+  many_err many (Starved part phase) rests = rests
+  many_err many (Over over stage count) rests = (rests.0, rests.1.0, rests.1.1, sym (ap in_err rests.1.2.2), many)
+  many_err many Memory rests = tt
+
+  pub alone_err : (fault : RunFault) → RestsSo (Err fault) → EndsAlone round mesh (all_next parts) old now (Err fault)
+  alone_err fault so = elim (cases_lt most_tets (length mesh.tets)) as (λ _. EndsAlone round mesh (all_next parts) old now (Err fault)) [
+    | inl many ↦ many_err many fault (so (many_is course mesh carried round default parts on) (many_begin course mesh carried round default parts on many))
+    | inr few ↦ few_err few fault (so (few_is course mesh carried round default parts on) (few_begin course mesh carried round default parts on few))
   ]
 
-  pub few_alone : length mesh.tets ≤ most_told → length mesh.tets ≤ most_tets
-  few_alone told = elim (cases_lt most_tets (length mesh.tets)) as (λ _. length mesh.tets ≤ most_tets) [
-    | inl many ↦
-        let right = over_right course mesh some labelled tets marks default many told in
-        let follows = follows_over_is course mesh some labelled tets marks default many told in
-        let along : GoesAlong course many_is default [] silent (begun_parts course mesh) (letters_begun course mesh) (first_drawing course mesh) = opens course mesh many_is default follows right silent [] refl refl unspent in
-        let count = right.0 in
-        absurd (not_done default (begun_parts course mesh) (first_drawing course mesh).parts along.parts_are (omega (arith, count, some)) (right.1.stands 0 some).upto (none_waits (begun_parts course mesh) (rests_alone told)))
-    | inr few ↦ few
-  ]
+  module _ (letters : ℕ) (so : RestsSo (Ok letters)) where
+    never : most_tets < length mesh.tets → ⊥
+    never many =
+        let truth = many_is course mesh carried round default parts on in
+        let begin = many_begin course mesh carried round default parts on many in
+        let rests = so truth begin in
+        let right = opening_right course truth default parts begin in
+        let some = on.shared.parts in
+        let all = right.0 in
+        not_done default (all_next parts) (opening course truth default parts).parts (standings_are course round parts on.courses on.rounds) (omega (arith, all, some)) (right.1.stands 0 some).upto rests.2
 
-  pub sees_alone : length mesh.tets ≤ most_told → SeeMesh mesh (begun_parts course mesh)
-  sees_alone told =
-      let few = few_alone told in
-      let follows = follows_mesh_is course mesh some labelled tets marks default few in
-      let along : GoesAlong course few_is default [] silent (begun_parts course mesh) (letters_begun course mesh) (first_drawing course mesh) = opens course mesh few_is default follows (mesh_right course mesh some labelled tets marks default few) silent [] refl refl unspent in
-      let no_letters : letter_count course.parts ≡ 0 = ap letter_count one in
-      sees_mesh course mesh some labelled tets marks default few [] (begun_parts course mesh) (along.parts_are ∙ ap (λ n. (drawn_by n).parts) (sym no_letters))
-    where
-      drawn_by : ℕ → Drawing StoreState Body
-      drawn_by n = turns (rules course) n [] (first_drawing course mesh)
+    sees : length mesh.tets ≤ most_tets → SeeMesh mesh (all_next parts)
+    sees few =
+        let no_letters : letter_count course.parts ≡ 0 = ap letter_count one in
+        sees_mesh course mesh carried round default parts on few [] (all_next parts)
+        (standings_are course round parts on.courses on.rounds ∙ ap (λ n. (drawing_at course mesh carried round default parts on n []).parts) (sym no_letters))
 
-  -- what a run comes to that rests at once
-  pub ends_alone : length mesh.tets ≤ most_told → (old now : Carried) (new : List PartState) (letters : ℕ) → new ≡ begun_parts course mesh → now ≡ old
-      → EndsAlone course mesh old now (Ok (record { parts = new; letters = letters; spent = false }))
-  ends_alone told old now new letters is same = (same, few_alone told, is, subst (SeeMesh mesh) (sym is) (sees_alone told))
+    pub alone_ok : (world : WorldState) → world.parts ≡ new → EndsAlone round mesh (all_next parts) old now (Ok world)
+    alone_ok world parts_are = elim (cases_lt most_tets (length mesh.tets)) as (λ _. (now ≡ old) × (length mesh.tets ≤ most_tets) × (world.parts ≡ all_next parts) × SeeMesh mesh world.parts) [
+      | inl many ↦ absurd (never many)
+      | inr few ↦
+          let rests = so (few_is course mesh carried round default parts on) (few_begin course mesh carried round default parts on few) in
+          let is : world.parts ≡ all_next parts = parts_are ∙ rests.1 in
+          (rests.0, few, is, subst (SeeMesh mesh) (sym is) (sees few))
+    ]

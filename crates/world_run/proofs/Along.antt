@@ -1,5 +1,5 @@
 -- A run goes along with a drawing, letter by letter, and ends with it.
-use Rattle.std.proofs.Common.{◌≡◌, ◌+◌, ℕ, suc, List, ◌++◌, map, Option, Some, None, Ok, Err, refl, sym, ap, ap₂, subst, ◌∙◌, arith}
+use Rattle.std.proofs.Common.{◌≡◌, ◌+◌, ℕ, List, ◌++◌, map, Some, None, Ok, Err, refl, sym, ap, subst, ◌∙◌}
 use Rattle.std.specs.Prelude.{IfSome}
 use Rattle.carrier.specs.Carried.{Carried, Letters}
 use Rattle.carrier.specs.Schedule.{Picks, after_pick, next_of}
@@ -18,15 +18,8 @@ use Rattle.world_run.specs.declared.fault.RunFault.{RunFault}
 use Rattle.world_run.specs.steps.Beginning.{owed_all}
 use Rattle.world_run.specs.steps.Drawing.{GoesAlong, RunDraws}
 use Rattle.world_run.specs.steps.Handing.{TurnReads, TurnTells}
-use Rattle.world_run.proofs.Places.{picks_next}
+use Rattle.world_run.proofs.Tracking.{both_told, one_told, turns_more}
 use Rattle.world_run.proofs.Turning.{run_ends, turn_draws, turn_ends}
-
--- what is due where a carrier tells both lists is due of those that it tells
-both_told : (first second : Option Letters) (held given : Letters) (due : Letters → Letters → Type 0) → first ≡ Some held → second ≡ Some given → IfSome first (λ h. IfSome second (λ g. due h g)) → due held given
-both_told first second held given due a b told = subst (λ g. IfSome g (λ g. due held g)) b (subst (λ h. IfSome h (λ h. IfSome second (λ g. due h g))) a told)
-
-one_told : (first : Option Letters) (given : Letters) (due : Letters → Type 0) → first ≡ Some given → IfSome first due → due given
-one_told first given due a told = subst (λ g. IfSome g due) a told
 
 module _ (course : Course) (truth : Truth StoreState Body) (default : Standing StoreState Body) where
   -- that the run has come to a drawing which is drawn to the same end as the first
@@ -43,14 +36,6 @@ module _ (course : Course) (truth : Truth StoreState Body) (default : Standing S
   pub along_at_first : (old : List PartState) (first : List Letter) (before : Carried) (picks : Picks) → KeepsAlong old old first first before before picks picks
   along_at_first old first before picks base drawing follows along = record { drawing = drawing; along = along; end_is = refl }
 
-  -- one turn more
-  turns_more : (n more : ℕ) (schedule : Picks) (drawing : Drawing StoreState Body) → n + 1 ≡ more
-      → turns (rules course) n (picks_left (after_pick schedule)) (turn (rules course) (next_of schedule) drawing) ≡ turns (rules course) more (picks_left schedule) drawing
-  turns_more n more schedule drawing is =
-      let next = picks_next schedule in
-      let same : suc n ≡ more = omega (arith, is) in
-      ap₂ (λ picks pick. turns (rules course) n picks (turn (rules course) pick drawing)) (sym next.1) (sym next.0) ∙ ap (λ k. turns (rules course) k (picks_left schedule) drawing) same
-
   module _ (old parts new : List PartState) (first sent' after : List Letter) (before mid now : Carried) (picks schedule left : Picks) (so_far : KeepsAlong old parts first sent' before mid picks schedule) where
     pub along_further : {X : Type 0} (x : X) → IfSome mid.held (λ held. IfSome mid.given (λ given. TurnTells parts new sent' after held given (next_of schedule) now (Ok x)))
         → IfSome mid.given (λ given. TurnReads given now.given (Ok x)) → left ≡ after_pick schedule → owed_all new + 1 ≡ owed_all parts → KeepsAlong old new first after before now picks left
@@ -62,7 +47,7 @@ module _ (course : Course) (truth : Truth StoreState Body) (default : Standing S
         record {
           drawing = turn (rules course) (next_of schedule) here.drawing;
           along = turn_draws course truth default follows base mid now parts new sent' after here.drawing _ _ (next_of schedule) x here.along held given (one_told mid.given _ (λ g. TurnReads g now.given (Ok x)) given reads) tells;
-          end_is = ap (λ s. turns (rules course) (owed_all new) (picks_left s) (turn (rules course) (next_of schedule) here.drawing)) next ∙ turns_more (owed_all new) (owed_all parts) schedule here.drawing lower ∙ here.end_is;
+          end_is = ap (λ s. turns (rules course) (owed_all new) (picks_left s) (turn (rules course) (next_of schedule) here.drawing)) next ∙ turns_more course (owed_all new) (owed_all parts) schedule here.drawing lower ∙ here.end_is;
         }
 
     pub along_failed : (X : Type 0) (first_open : ℕ × ℕ) (fault : RunFault) → IfSome mid.held (λ held. IfSome mid.given (λ given. TurnTells {X = X} parts new sent' after held given (next_of schedule) now (Err fault)))

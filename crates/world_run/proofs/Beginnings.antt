@@ -3,10 +3,9 @@ use Rattle.std.proofs.Common.{◌≡◌, ◌+◌, ◌<◌, ◌≤◌, ℕ, zero,
 use Rattle.std.specs.Prelude.{map, filter, slice_get, ◌==◌, is_some}
 use Rattle.std.specs.Option.{option_or}
 use Rattle.std.specs.Cmp.{both_ways}
-use Rattle.std.specs.List.{flat_map, zip}
+use Rattle.std.specs.List.{zip}
 use Rattle.std.proofs.lemmas.Bool.{false≢true}
-use Rattle.std.proofs.lemmas.List.{append-nil, map-append, take_all}
-use Rattle.std.proofs.lemmas.Grind.{flat_map-append}
+use Rattle.std.proofs.lemmas.List.{map-append, take_all}
 use Rattle.std.proofs.lemmas.List.Elements.{filter_more}
 use Rattle.std.proofs.lemmas.Slice.Zip.{get_or-zip, length-zip}
 use Rattle.ma_cells.specs.Ascending.{ascending_of}
@@ -115,9 +114,6 @@ below_more n = let next : suc n ≡ n + 1 = omega arith in subst (λ m. below m 
 
 pub parts_more : {X : Type 0} (f : ℕ → X) (n : ℕ) → map f (below (n + 1)) ≡ map f (below n) ++ f n ∷ []
 parts_more f n = ap (map f) (below_more n) ∙ map-append f (below n) (n ∷ [])
-
-pub letters_more : {X : Type 0} (f : ℕ → List X) (n : ℕ) → flat_map f (below (n + 1)) ≡ flat_map f (below n) ++ f n
-letters_more f n = ap (flat_map f) (below_more n) ∙ flat_map-append f (below n) (n ∷ []) ∙ ap (λ l. flat_map f (below n) ++ l) (append-nil (f n))
 
 there_before : (parts : List PartState) (q : ℕ) (x part : PartState) → slice_get parts q ≡ Some part → slice_get (parts ++ x ∷ []) q ≡ Some part
 there_before [] q x part h = absurd (false≢true (ap is_some h))

@@ -30,7 +30,7 @@ module _ (old parts parts' : List PartState) (before : Letters) (mid now : Optio
         omega (arith, ran.3, long),
       )
 
-  ends : (X : Type 0) (fault : RunFault) → IfSome mid (λ given. Turns {X = X} parts parts' given now (Err fault)) → RunTells old before now (Err fault)
+  ends : (X : Type 0) (fault : RunFault) → IfSome mid (λ given. Turns {X = X} parts parts' given now (Err fault)) → RunTells old 0 before now (Err fault)
   ends X Link turned = tt
   ends X Memory turned = tt
   ends X (BadLetter bytes) turned =
@@ -69,6 +69,6 @@ pub used_more : (schedule : Picks) (n : ℕ) → after_pick (used schedule n) �
 used_more schedule n = let next : suc n ≡ n + 1 = omega arith in subst (λ m. after_pick (used schedule n) ≡ used schedule m) next refl
 
 -- a part finds too many tetrahedra as it begins
-pub ends_at_first : (parts : List PartState) (given : Option Letters) (round stage count : ℕ) → IsOver parts round stage count → IfSome given (λ before. RunTells parts before given (Err (Over round stage count)))
-ends_at_first parts None round stage count over = tt
-ends_at_first parts (Some before) round stage count over = ([], ap Some (sym (append-nil before)), over)
+pub ends_at_first : (parts new : List PartState) (given : Option Letters) (round stage count : ℕ) → IsOver parts round stage count → IfSome given (λ before. Runs parts new before given (Err (Over round stage count)))
+ends_at_first parts new None round stage count over = tt
+ends_at_first parts new (Some before) round stage count over = ([], ap Some (sym (append-nil before)), over)

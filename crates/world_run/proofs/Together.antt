@@ -1,7 +1,7 @@
 -- Of the marks on its cells a part owns those whose cells no lesser part has, and all parts that see a mesh have it together.
 use Rattle.std.proofs.Common.{◌≡◌, ℕ, zero, suc, ◌<◌, ◌≤◌, inl, inr, Bool, true, false, cond, not, ◌&&◌, List, [], ◌∷◌, ◌++◌, Option, Some, None, filter, length, nat_lt, refl, sym, ap, subst, ◌∙◌, arith, eqb-true}
 use Rattle.std.specs.Prelude.{map, slice_get}
-use Rattle.std.specs.List.{flat_map, zip}
+use Rattle.std.specs.List.{flat_map}
 use Rattle.std.specs.List.Sorted.{IsStrictlySortedBy}
 use Rattle.std.specs.Option.{option_map}
 use Rattle.std.specs.Ordering.{nat_cmp}
@@ -15,14 +15,13 @@ use Rattle.ma_cells.specs.Ascending.{ascending_of, has}
 use Rattle.ma_cells.specs.Cells.{CellMark, corners_of, mark_cmp}
 use Rattle.ma_cells.specs.Faces.{holds_all}
 use Rattle.ma_cells.specs.Incidence.{is_on}
-use Rattle.ma_cells.specs.Meshes.{MarkedMesh}
 use Rattle.ma_cells.specs.Tetrahedron.{Tetrahedron, tet_cmp}
 use Rattle.ma_cells.specs.contracts.cell.MarkOrd.TheImpl as MarkOrder
 use Rattle.ma_cells.specs.declared.cell.Cell.{Cell}
 use Rattle.ma_cells.specs.declared.view.View.{View}
 use Rattle.ma_cells.proofs.Ascents.{sorted-ascending_of}
 use Rattle.part_core.proofs.Bodies.{less}
-use Rattle.ma_cells.proofs.CellOrders.{derived_mark_cmp, ghost_cmp_total, ghost_cmp-IsAntisymmetric, mark_cmp_total, mark_cmp-IsAntisymmetric, tet_cmp_total, tet_cmp-IsAntisymmetric}
+use Rattle.ma_cells.proofs.CellOrders.{derived_mark_cmp, mark_cmp_total, mark_cmp-IsAntisymmetric, tet_cmp_total, tet_cmp-IsAntisymmetric}
 use Rattle.part_core.specs.Parts.{PartState}
 use Rattle.part_phases.specs.Inboxes.{below}
 use Rattle.part_rules.specs.Owed.{IsLabelled}
@@ -35,8 +34,7 @@ use Rattle.view_laws.specs.Views.{is_part, owned_marks}
 use Rattle.view_laws.proofs.MeshItems.{label-below}
 use Rattle.view_laws.proofs.Numbered.{in-below, from-below}
 use Rattle.view_laws.proofs.Unions.{union_is}
-use Rattle.world_run.specs.Drawn.{SeeMesh}
-use Rattle.world_run.specs.Meshes.{labelled_mesh}
+use Rattle.world_run.specs.Rounds.{SeeMesh}
 use Rattle.world_run.specs.Union.{PartsMakeMesh, union_in}
 use Rattle.world_run.specs.steps.Uniting.{lesser_ghosts}
 
@@ -177,34 +175,15 @@ there [] i h = absurd (omega (arith, h))
 there (y ∷ ys) zero h = (y, inl refl, refl)
 there (y ∷ ys) (suc i) h = let r = there ys i (omega (arith, h)) in (r.0, inr r.1, r.2)
 
-in_zip : (tets : List Tetrahedron) (labels : List ℕ) (t : Tetrahedron) → length labels ≡ length tets → In t tets → (label : ℕ) × In {X = Tetrahedron × ℕ} (t, label) (zip tets labels)
-in_zip [] labels t long h = absurd h
-in_zip (x ∷ tets) [] t long h = absurd (omega (arith, long))
-in_zip (x ∷ tets) (l ∷ labels) t long h = elim h [
-  | inl same ↦ (l, inl (λ i. (same i, l)))
-  | inr rest ↦ let r = in_zip tets labels t (omega (arith, long)) rest in (r.0, inr r.1)
-]
-
-from_zip : (tets : List Tetrahedron) (labels : List ℕ) (e : Tetrahedron × ℕ) → In e (zip tets labels) → In e.0 tets
-from_zip [] marks e h = absurd h
-from_zip (x ∷ tets) [] e h = absurd h
-from_zip (x ∷ tets) (l ∷ rest) e h = elim h [
-  | inl same ↦ inl (ap (λ z. z.0) same)
-  | inr later ↦ inr (from_zip tets rest e later)
-]
-
-module _ (mesh : MarkedMesh) (labels : List ℕ) (parts : List PartState) (long : length labels ≡ length mesh.tets) (right : IsLabelled (length parts) (labelled_mesh mesh labels)) (see : SeeMesh (labelled_mesh mesh labels) parts) where
-  abbrev whole : LabelledMesh
-  whole = labelled_mesh mesh labels
-
+module _ (mesh : LabelledMesh) (parts : List PartState) (right : IsLabelled (length parts) mesh) (see : SeeMesh mesh parts) where
   abbrev seen : PartState → View
   seen part = view_in part.standing.holds
 
   abbrev views : List View
-  views = map (view_of whole) (below (length parts))
+  views = map (view_of mesh) (below (length parts))
 
-  sees : (i : ℕ) (part : PartState) → i < length parts → slice_get parts i ≡ Some part → seen part ≡ view_of whole i
-  sees i part within is = same_Some (seen part) (view_of whole i) (sym (ap (option_map seen) is) ∙ see i within)
+  sees : (i : ℕ) (part : PartState) → i < length parts → slice_get parts i ≡ Some part → seen part ≡ view_of mesh i
+  sees i part within is = same_Some (seen part) (view_of mesh i) (sym (ap (option_map seen) is) ∙ see i within)
 
   -- what is gathered from the parts is gathered from the views
   module _ {Y : Type 0} (gather : View → List Y) where
@@ -212,37 +191,38 @@ module _ (mesh : MarkedMesh) (labels : List ℕ) (parts : List PartState) (long 
     from_parts y h =
         let part = from-flat_map (λ part. gather (seen part)) parts y h in
         let at = at_place parts part.0 part.1 in
-        in-flat_map gather views (view_of whole at.0) y (in-map (view_of whole) (below (length parts)) at.0 (in-below (length parts) at.0 at.1)) (subst (λ v. In y (gather v)) (sees at.0 part.0 at.1 at.2) part.2)
+        in-flat_map gather views (view_of mesh at.0) y (in-map (view_of mesh) (below (length parts)) at.0 (in-below (length parts) at.0 at.1)) (subst (λ v. In y (gather v)) (sees at.0 part.0 at.1 at.2) part.2)
 
     pub from_views : (y : Y) → In y (flat_map gather views) → In y (flat_map (λ part. gather (seen part)) parts)
     from_views y h =
         let view = from-flat_map gather views y h in
-        let number = from-map (view_of whole) (below (length parts)) view.0 view.1 in
+        let number = from-map (view_of mesh) (below (length parts)) view.0 view.1 in
         let within = from-below (length parts) number.0 number.1 in
         let part = there parts number.0 within in
         in-flat_map (λ part. gather (seen part)) parts part.0 y part.1 (subst (λ v. In y (gather v)) (number.2 ∙ sym (sees number.0 part.0 within part.2)) view.2)
 
-  own_from : (t : Tetrahedron) → In t (flat_map (λ view. view.own) views) → In t mesh.tets
+  own_from : (t : Tetrahedron) → In t (flat_map (λ view. view.own) views) → In t (map tet_of mesh.tets)
   own_from t h =
       let view = from-flat_map (λ (view : View). view.own) views t h in
-      let number = from-map (view_of whole) (below (length parts)) view.0 view.1 in
-      let own : In t (own_of whole number.0) = subst (λ (v : View). In t v.own) number.2 view.2 in
-      from_zip mesh.tets labels (t, number.0) (from-ascending_of ghost_cmp_total ghost_cmp-IsAntisymmetric (zip mesh.tets labels) (t, number.0) (from-own whole number.0 t own))
+      let number = from-map (view_of mesh) (below (length parts)) view.0 view.1 in
+      let own : In t (own_of mesh number.0) = subst (λ (v : View). In t v.own) number.2 view.2 in
+      in-map tet_of mesh.tets (t, number.0) (from-own mesh number.0 t own)
 
-  own_in : (t : Tetrahedron) → In t mesh.tets → In t (flat_map (λ view. view.own) views)
+  own_in : (t : Tetrahedron) → In t (map tet_of mesh.tets) → In t (flat_map (λ view. view.own) views)
   own_in t h =
-      let label = in_zip mesh.tets labels t long h in
-      let listed : In (t, label.0) whole.tets = in-ascending_of ghost_cmp_total ghost_cmp-IsAntisymmetric (zip mesh.tets labels) (t, label.0) label.1 in
-      in-flat_map (λ (view : View). view.own) views (view_of whole label.0) t (in-map (view_of whole) (below (length parts)) label.0 (in-below (length parts) label.0 (label-below (length parts) whole right (t, label.0) listed))) (in-own whole label.0 t listed)
+      let entry = from-map tet_of mesh.tets t h in
+      let label = label_of entry.0 in
+      let own : In t (own_of mesh label) = subst (λ u. In u (own_of mesh label)) (sym entry.2) (in-own mesh label (tet_of entry.0) entry.1) in
+      in-flat_map (λ (view : View). view.own) views (view_of mesh label) t (in-map (view_of mesh) (below (length parts)) label (in-below (length parts) label (label-below (length parts) mesh right entry.0 entry.1))) own
 
-  tets_are : (union_in parts).tets ≡ ascending_of tet_cmp mesh.tets
-  tets_are = same_made tet_cmp_total tet_cmp-IsAntisymmetric (flat_map (λ (part : PartState). part.standing.holds.own) parts) mesh.tets
+  tets_are : (union_in parts).tets ≡ ascending_of tet_cmp (map tet_of mesh.tets)
+  tets_are = same_made tet_cmp_total tet_cmp-IsAntisymmetric (flat_map (λ (part : PartState). part.standing.holds.own) parts) (map tet_of mesh.tets)
       (λ t h. own_from t (from_parts (λ view. view.own) t h)) (λ t h. from_views (λ view. view.own) t (own_in t h))
 
-  marks_are : (union_in parts).marks ≡ marks_on mesh.tets mesh.marks
+  marks_are : (union_in parts).marks ≡ mesh.marks
   marks_are =
       same_made mark_cmp_total mark_cmp-IsAntisymmetric (flat_map (λ (part : PartState). owned_marks (seen part)) parts) (flat_map owned_marks views) (from_parts owned_marks) (from_views owned_marks)
-      ∙ ap (λ (m : LabelledMesh). m.marks) (union_is (length parts) whole right)
+      ∙ ap (λ (m : LabelledMesh). m.marks) (union_is (length parts) mesh right)
 
 pub parts_make_mesh : PartsMakeMesh
-parts_make_mesh mesh labels parts long right see = (tets_are mesh labels parts long right see, marks_are mesh labels parts long right see)
+parts_make_mesh mesh parts right see = λ i. record { tets = tets_are mesh parts right see i; marks = marks_are mesh parts right see i }

@@ -32,12 +32,9 @@ use Rattle.world_run.proofs.FirstWaiting.{all_done_at, none_owed, waits_at}
 use Rattle.world_run.proofs.DrawnLetter.{IsFor, done_at_end, drawn_for, none_waits_for_done, turn_is}
 use Rattle.world_run.proofs.Places.{all_at, all_removed, all_set, from_map, remove-map, to_map}
 use Rattle.world_run.proofs.Resting.{could_go_on, is_over, rests-handed, waits_or_done}
+use Rattle.world_run.proofs.Tracking.{taken_sent}
 
--- ---- letters
-taken_sent : (letters : List (phases.Letter Body)) → map taken (map sent letters) ≡ letters
-taken_sent [] = refl
-taken_sent (letter ∷ letters) = ap (λ rest. letter ∷ rest) (taken_sent letters)
-
+-- ---- answers
 same_over : (answer : phases.Answer Coordinates) → is_over answer ≡ is_too_many answer
 same_over (phases.Stepped phases.Waiting) = refl
 same_over (phases.Stepped (phases.Moved phase)) = refl

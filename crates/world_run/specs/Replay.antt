@@ -1,5 +1,5 @@
 -- What letters make of parts, handed one after the other to the part that each names.
-use Rattle.std.specs.Prelude.{ℕ, Bool, true, false, nat_lt, List, [], ◌∷◌, map, set, slice_get, Option, Some, None, Result, Ok, Err, if◌then◌else◌}
+use Rattle.std.specs.Prelude.{◌+◌, ℕ, Bool, true, false, nat_lt, List, [], ◌∷◌, map, set, slice_get, Option, Some, None, Result, Ok, Err, if◌then◌else◌}
 use Rattle.std.specs.List.{list_all}
 use Rattle.ma_geom.specs.Coordinates.{Coordinates}
 use Rattle.letters.specs.Letters.{read}
@@ -36,14 +36,20 @@ is_refusal _ = true
 abbrev pub after_outcome : PartState → ℕ → phases.Outcome StoreState Body Coordinates → PartState
 after_outcome part rounds due = record { course = part.course; standing = due.part; begun = rounds; spent = is_too_many due.answer }
 
--- the parts of a mesh once each has begun round 0
-abbrev pub begun_part : Course → LabelledMesh → ℕ → PartState
-begun_part course mesh p =
-    let part : PartState = first_part p course (own_of mesh p) mesh.marks in
-    after_outcome part 1 (begun (rules course) 0 part.standing)
+-- the parts of a mesh before their first round
+abbrev pub first_parts : Course → LabelledMesh → List PartState
+first_parts course mesh = map (λ p. first_part p course (own_of mesh p) mesh.marks) (below course.parts)
 
-abbrev pub begun_parts : Course → LabelledMesh → List PartState
-begun_parts course mesh = map (begun_part course mesh) (below course.parts)
+-- what comes of a part that begins its next round, and the part then
+abbrev pub next_outcome : PartState → phases.Outcome StoreState Body Coordinates
+next_outcome part = begun (rules part.course) part.begun part.standing
+
+abbrev pub next_begun : PartState → PartState
+next_begun part = after_outcome part (part.begun + 1) (next_outcome part)
+
+-- the parts once each has begun its next round
+abbrev pub all_next : List PartState → List PartState
+all_next parts = map next_begun parts
 
 -- the letter that bytes are, if they are one
 abbrev pub letter_in : List ℕ → Option Letter

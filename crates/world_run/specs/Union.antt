@@ -1,18 +1,17 @@
 -- All parts of a run together.
-use Rattle.std.specs.Prelude.{◌≡◌, ℕ, List, length}
+use Rattle.std.specs.Prelude.{◌≡◌, List, length}
 use Rattle.std.specs.List.{flat_map}
 use Rattle.ma_cells.specs.Ascending.{ascending_of}
 use Rattle.ma_cells.specs.Cells.{mark_cmp}
-use Rattle.ma_cells.specs.Meshes.{MarkedMesh}
 use Rattle.ma_cells.specs.Tetrahedron.{tet_cmp}
 use Rattle.ma_cells.specs.declared.batch.Batch.{Batch}
 use Rattle.part_core.specs.Parts.{PartState}
 use Rattle.part_rules.specs.Owed.{IsLabelled}
-use Rattle.part_store.specs.Labelled.{marks_on}
+use Rattle.part_store.specs.Labelled.{LabelledMesh}
 use Rattle.part_store.specs.Stores.{view_in}
+use Rattle.refined_views.specs.Refined.{without_labels}
 use Rattle.view_laws.specs.Views.{owned_marks}
-use Rattle.world_run.specs.Drawn.{SeeMesh}
-use Rattle.world_run.specs.Meshes.{labelled_mesh}
+use Rattle.world_run.specs.Rounds.{SeeMesh}
 
 -- all own tetrahedra of the parts, and the marks on cells of a part's own tetrahedra that the part owns, as sets
 abbrev pub union_in : List PartState → Batch
@@ -21,7 +20,6 @@ union_in parts = record {
   marks = ascending_of mark_cmp (flat_map (λ part. owned_marks (view_in part.standing.holds)) parts);
 }
 
--- where each of all parts sees its own of a mesh, and what lies beside it, they have together the tetrahedra of the mesh, and the marks on their cells, whatever the labels
+-- where each of all parts sees its own of a labelled mesh, and what lies beside it, they have together the mesh without its labels
 abbrev pub PartsMakeMesh : Type 0
-PartsMakeMesh = (mesh : MarkedMesh) (labels : List ℕ) (parts : List PartState) → length labels ≡ length mesh.tets → IsLabelled (length parts) (labelled_mesh mesh labels)
-    → SeeMesh (labelled_mesh mesh labels) parts → ((union_in parts).tets ≡ ascending_of tet_cmp mesh.tets) × ((union_in parts).marks ≡ marks_on mesh.tets mesh.marks)
+PartsMakeMesh = (mesh : LabelledMesh) (parts : List PartState) → IsLabelled (length parts) mesh → SeeMesh mesh parts → union_in parts ≡ without_labels mesh

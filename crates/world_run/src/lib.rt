@@ -6,6 +6,7 @@ mod fault;
 mod handing;
 pub mod laws;
 mod posting;
+mod round;
 mod running;
 mod starting;
 mod uniting;

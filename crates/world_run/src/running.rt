@@ -1,5 +1,5 @@
 //! The run of parts until all are done.
-ghost use Rattle.std.specs.Prelude.{◌≡◌, ◌+◌, ◌<◌, ◌≤◌, ◌^◌, None, Some, IfOk, IfSome, OnOk};
+ghost use Rattle.std.specs.Prelude.{◌≡◌, ◌+◌, ◌<◌, ◌≤◌, ◌^◌, true, None, Some, IfOk, IfSome, OnOk};
 ghost use Rattle.carrier.specs.Schedule.{after_pick, next_of};
 ghost use Rattle.letters.specs.declared.letter.Body.{Body};
 ghost use Rattle.part_phases.specs.Standings.{Standing};
@@ -7,11 +7,12 @@ ghost use Rattle.part_rules.specs.declared.course.Course.{Course};
 ghost use Rattle.part_store.specs.Stores.{StoreState};
 ghost use Rattle.phase_laws.specs.Truth.{Truth};
 ghost use Rattle.world_run.specs.Drawn.{used};
-ghost use Rattle.world_run.specs.Replay.{first_waiting};
+ghost use Rattle.world_run.specs.Replay.{all_done, first_waiting};
 ghost use Rattle.world_run.specs.Told.{HasCause};
-ghost use Rattle.world_run.specs.steps.Beginning.{AreUnspent, owed_all};
+ghost use Rattle.world_run.specs.steps.Beginning.{AreKept, AreUnspent, owed_all};
 ghost use Rattle.world_run.specs.steps.Drawing.{RunDraws};
 ghost use Rattle.world_run.specs.steps.Handing.{TurnReads, TurnTells};
+ghost use Rattle.world_run.specs.steps.Tracking.{RunTracks};
 ghost use Rattle.world_run.specs.steps.Turns.{Rests, Runs, Turns};
 
 use crate::fault::RunFault;
@@ -52,6 +53,7 @@ fn turn<C: Carrier>(
     ensures reads { IfSome (C.carried carrier.old).given (λ given. TurnReads given (C.carried carrier.new).given result) }
     ensures schedule { OnOk result (schedule.new ≡ after_pick schedule.old) }
     ensures unspent { OnOk result (AreUnspent parts.new) }
+    ensures kept { OnOk result (AreKept parts.old parts.new) }
     ensures lower { OnOk result (owed_all parts.new + 1 ≡ owed_all parts.old) }
     ensures faults { (C.carried carrier.old).faults ≤ (C.carried carrier.new).faults }
     ensures dry { (C.carried carrier.old).dry ≤ (C.carried carrier.new).dry }
@@ -81,9 +83,15 @@ pub fn run<C: Carrier>(
     requires few { owed_all parts.old < 2 ^ 64 }
     ensures told { IfSome (C.carried carrier.old).given (λ before. Runs parts.old parts.new before (C.carried carrier.new).given result) }
     ensures draws { (course : Course) (truth : Truth StoreState Body) (default : Standing StoreState Body) → RunDraws course truth default parts.old parts.new sent.items (C.carried carrier.old) (C.carried carrier.new) schedule.old result }
+    ensures tracks { (course : Course) → RunTracks course parts.old parts.new sent.items (C.carried carrier.old) (C.carried carrier.new) schedule.old result }
+    ensures done { OnOk result (all_done parts.new ≡ true) }
+    ensures unspent { OnOk result (AreUnspent parts.new) }
+    ensures kept { OnOk result (AreKept parts.old parts.new) }
     ensures used { IfOk result (λ letters. schedule.new ≡ used schedule.old letters) }
     ensures letters { IfOk result (λ letters. letters ≡ owed_all parts.old) }
     ensures rests { first_waiting parts.old ≡ None → Rests parts.old parts.new (C.carried carrier.old) (C.carried carrier.new) result }
+    ensures faults { (C.carried carrier.old).faults ≤ (C.carried carrier.new).faults }
+    ensures dry { (C.carried carrier.old).dry ≤ (C.carried carrier.new).dry }
     ensures cause { HasCause (C.carried carrier.old) (C.carried carrier.new) result }
 {
     let mut letters = 0;

@@ -1,29 +1,18 @@
-//! The parts of a mesh, made and begun.
-ghost use Rattle.std.specs.Prelude.{◌≡◌, ◌<◌, ◌≤◌, ◌++◌, true, filter, length, map, IfOk, OnOk};
+//! The parts of a mesh, before their first round.
+ghost use Rattle.std.specs.Prelude.{◌≡◌, ◌<◌, ◌≤◌, true, filter, length, map, IfOk};
 ghost use Rattle.std.specs.List.{AllByRecursion, zip};
 ghost use Rattle.ma_cells.specs.Cells.{is_cell};
-ghost use Rattle.part_core.specs.Parts.{MayBegin, first_part, sent};
-ghost use Rattle.part_phases.specs.Phases.{begun};
-ghost use Rattle.part_rules.specs.Rounds.{rules};
+ghost use Rattle.ma_cells.specs.Tetrahedron.{are_corners};
+ghost use Rattle.part_core.specs.Parts.{first_part};
 ghost use Rattle.part_store.specs.Labelled.{has_label, own_of, tet_of};
 ghost use Rattle.world_run.specs.Meshes.{labelled_mesh};
-ghost use Rattle.world_run.specs.Replay.{after_outcome, begun_parts};
-ghost use Rattle.world_run.specs.steps.Beginning.{Says, SaysAll, letters_begun};
+ghost use Rattle.world_run.specs.Replay.{first_parts};
 
-use crate::excess::Excess;
-use letters::Letter;
 use ma_cells::{Label, Mark, Mesh, Tet};
 use ma_geom::Memory;
 use part_core::Part;
 use part_rules::Course;
 use std::alloc::Global;
-
-/// Parts that have begun a round, and what the first of them says that finds too many tetrahedra.
-#[derive(Drop)]
-pub struct Begun {
-    pub parts: Vec<Part>,
-    pub excess: Option<Excess>,
-}
 
 /// The tetrahedra with a label, in the order in which they stand.
 fn own_tets(
@@ -86,41 +75,31 @@ pub fn tell_cells(marks: &[Mark])
     }
 }
 
-/// Begins round 0 of a part, and tells whether it finds too many tetrahedra.
-fn begin(alloc: Global, part: &mut Part, out: &mut Vec<Letter>) -> Result<Option<Excess>, Memory>
-    requires { MayBegin part.old 0 }
-    ensures begun { OnOk result (part.new ≡ after_outcome part.old 1 (begun (rules part.old.course) 0 part.old.standing)) }
-    ensures says { IfOk result (λ excess. Says part.new excess) }
-    ensures letters { OnOk result (out.new.items ≡ out.old.items ++ map sent (begun (rules part.old.course) 0 part.old.standing).letters) }
+/// That no tetrahedron is flat, which its type tells of each alone. Takes no memory.
+pub fn tell_solid(tets: &[Tet])
+    ensures { AllByRecursion (λ tet. are_corners tet.corners ≡ true) tets.now }
 {
-    match part.begin(alloc, 0, out) {
-        Ok(step) => Ok(Excess::of(part.round(), step)),
-        Err(_) => Err(Memory),
+    for tet in tets {
+        let _corners = tet.corners();
     }
 }
 
-/// The parts of a mesh once each has begun round 0, in ascending order. Their letters are appended.
-pub fn begin_all(
+/// The parts of a mesh, in ascending order.
+pub fn start_all(
     alloc: Global,
     course: &Course,
     mesh: &Mesh,
     labels: &[Label],
-    out: &mut Vec<Letter>,
-) -> Result<Begun, Memory>
+) -> Result<Vec<Part>, Memory>
     requires parts { course.now.parts ≤ 64 }
     requires grid { course.now.grid ≤ 30 }
     requires each { length labels.now ≡ length mesh.now.tets }
-    ensures parts { IfOk result (λ begun. begun.parts.items ≡ begun_parts course.now (labelled_mesh mesh.now labels.now)) }
-    ensures excess { IfOk result (λ begun. SaysAll begun.parts.items begun.excess) }
-    ensures letters { OnOk result (out.new.items ≡ out.old.items ++ letters_begun course.now (labelled_mesh mesh.now labels.now)) }
+    ensures { IfOk result (λ parts. parts.items ≡ first_parts course.now (labelled_mesh mesh.now labels.now)) }
 {
     let mut parts = Vec::with_capacity(alloc, course.parts as usize)?;
-    let mut excess = None;
     for number in 0..course.parts {
-        let mut part = start_part(alloc, course, mesh, labels, number)?;
-        let said = begin(alloc, &mut part, out)?;
-        excess = excess.or(said);
+        let part = start_part(alloc, course, mesh, labels, number)?;
         parts.push(part)?;
     }
-    Ok(Begun { parts, excess })
+    Ok(parts)
 }

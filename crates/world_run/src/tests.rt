@@ -1,5 +1,8 @@
-// What came of runs that were worked out by hand, on two tetrahedra with a common face, on the grid of 1: part 0 has the one at the origin, part 1 the other. The homes of all places but the origin are part 1.
-ghost use Rattle.std.specs.Prelude.{◌≡◌, [], length, IfOk};
+// What came of runs that were worked out by hand, on two tetrahedra with a common face, on the grid of 4: part 0 has the one at the origin, part 1 the other. The homes of all places but the origin are part 1.
+ghost use Rattle.std.specs.Prelude.{◌≡◌, ◌≤◌, [], false, length, true, IfOk};
+ghost use Rattle.std.specs.List.{list_all};
+ghost use Rattle.ma_cells.specs.Grid.{are_on_grid, is_multiple, is_on_grid};
+ghost use Rattle.world_run.specs.Rounds.{AreDone};
 
 use super::*;
 use carrier::{Carrier, Change, QueueCarrier, Schedule, TestCarrier};
@@ -10,24 +13,38 @@ use size_marks::SizeField;
 use std::alloc::Global;
 use std::cmp::Ordering;
 
-fn at(x: u8, y: u8, z: u8) -> Place {
-    match Place::new(i32::from(x), i32::from(y), i32::from(z)) {
+/// A coordinate of one of two sides.
+fn side(number: u8) -> i32
+    ensures { is_multiple 2 result ≡ true }
+{
+    if number == 0 { 0 } else { 4 }
+}
+
+/// A corner of the cube with these sides.
+fn at(x: u8, y: u8, z: u8) -> Place
+    ensures { is_on_grid 2 result ≡ true }
+{
+    match Place::new(side(x), side(y), side(z)) {
         Some(place) => place,
         None => Place::default(),
     }
 }
 
-fn tet(corners: [Place; 4]) -> Tet {
-    Tet::new(corners, 0, 1).unwrap_or_default()
+fn tet(corners: [Place; 4]) -> Result<Tet, Memory>
+    requires { list_all (is_on_grid 2) corners ≡ true }
+    ensures { IfOk result (λ tet. list_all (is_on_grid 2) tet.corners ≡ true) }
+{
+    Tet::new(corners, 0, 1).ok_or(Memory)
 }
 
 fn mesh(alloc: Global) -> Result<Mesh, Memory>
     ensures tets { IfOk result (λ mesh. length mesh.tets ≡ 2) }
     ensures marks { IfOk result (λ mesh. mesh.marks ≡ []) }
+    ensures grid { IfOk result (λ mesh. are_on_grid 2 mesh.tets ≡ true) }
 {
     let [z, y, x] = [at(0, 0, 1), at(0, 1, 0), at(1, 0, 0)];
-    let first = tet([at(0, 0, 0), z, y, x]);
-    let second = tet([z, y, x, at(1, 1, 1)]);
+    let first = tet([at(0, 0, 0), z, y, x])?;
+    let second = tet([z, y, x, at(1, 1, 1)])?;
     match first.corners().cmp(&second.corners()) {
         Ordering::Less => {
             let tets = Vec::from_slice(alloc, &[first, second])?;
@@ -37,16 +54,16 @@ fn mesh(alloc: Global) -> Result<Mesh, Memory>
     }
 }
 
+/// Each edge of the mesh is longer than its size, and so is each half of it.
 fn course(alloc: Global) -> Course
-    ensures parts { result.parts ≡ 2 }
-    ensures grid { result.grid ≡ 0 }
+    ensures { result ≡ record { parts = 2; grid = 2; collapse = 0; swap = 0; field = record { default = 1; boxes = [] } } }
 {
     Course {
         parts: 2,
-        grid: 0,
+        grid: 2,
         collapse: 0,
         swap: 0,
-        field: SizeField::uniform(alloc, 8),
+        field: SizeField::uniform(alloc, 1),
     }
 }
 
@@ -56,11 +73,23 @@ fn queue(alloc: Global, fail_takes: &[u64]) -> Result<QueueCarrier, Memory> {
     Ok(QueueCarrier::new(alloc, Vec::new(alloc), fail_takes))
 }
 
-/// How many letters the round takes from the oldest on.
-fn letters<C: Carrier>(alloc: Global, carrier: &mut C) -> Result<u64, RunFault> {
+/// The parts of the mesh after the round in which they see what is theirs.
+fn start<C: Carrier>(
+    alloc: Global,
+    carrier: &mut C,
+    schedule: &mut Schedule,
+) -> Result<World, RunFault>
+    ensures done { IfOk result (λ world. AreDone (record { parts = 2; grid = 2; collapse = 0; swap = 0; field = record { default = 1; boxes = [] } }) 1 world.parts) }
+    ensures unspent { IfOk result (λ world. world.spent ≡ false) }
+{
     let mesh = mesh(alloc)?;
+    World::start(alloc, course(alloc), &mesh, &[0, 1], carrier, schedule)
+}
+
+/// How many letters that round takes from the oldest on.
+fn letters<C: Carrier>(alloc: Global, carrier: &mut C) -> Result<u64, RunFault> {
     let mut schedule = Schedule::new(Vec::new(alloc));
-    let world = World::start(alloc, course(alloc), &mesh, &[0, 1], carrier, &mut schedule)?;
+    let world = start(alloc, carrier, &mut schedule)?;
     Ok(world.letters())
 }
 
@@ -112,4 +141,26 @@ fn with_take_that_fails(alloc: Global, number: u64) -> Result<u64, RunFault> {
 #[test]
 fn a_take_that_fails_ends_the_run(rt: HostRuntime) {
     assert!(rt; matches!(with_take_that_fails(rt.alloc(), 3), Err(RunFault::Link)));
+}
+
+/// How many tetrahedra all parts have, and how many letters they have taken, after so many rounds
+/// that refine.
+fn refined(alloc: Global, rounds: u32) -> Result<(usize, u64), RunFault>
+    requires { rounds ≤ 2 }
+{
+    let mut carrier = queue(alloc, &[])?;
+    let mut schedule = Schedule::new(Vec::new(alloc));
+    let mut world = start(alloc, &mut carrier, &mut schedule)?;
+    for _round in 0..rounds {
+        world.run_round(alloc, &mut carrier, &mut schedule)?;
+    }
+    let all = world.reassemble(alloc)?;
+    Ok((all.tets.as_slice().len(), world.letters()))
+}
+
+#[test]
+fn each_further_round_cuts_each_tetrahedron_into_eight_and_has_six_letters(rt: HostRuntime) {
+    assert!(rt; matches!(refined(rt.alloc(), 0), Ok((2, 6))));
+    assert!(rt; matches!(refined(rt.alloc(), 1), Ok((16, 12))));
+    assert!(rt; matches!(refined(rt.alloc(), 2), Ok((128, 18))));
 }

@@ -1,18 +1,22 @@
 // All parts of a mesh.
-ghost use Rattle.std.specs.Prelude.{◌≡◌, ◌<◌, ◌≤◌, true, false, length, slice_index_or, Some, IfOk, IfSome};
+ghost use Rattle.std.specs.Prelude.{◌≡◌, ◌+◌, ◌<◌, ◌≤◌, ℕ, true, false, length, slice_index_or, Some, IfOk, IfSome, OnErr, OnOk};
 ghost use Rattle.std.specs.List.{All};
 ghost use Rattle.ma_cells.specs.Grid.{are_on_grid, marks_are_on_grid};
 ghost use Rattle.directory.specs.Posting.{most_told};
-ghost use Rattle.world_run.specs.Drawn.{Draws, EndsAlone, IfAllIsTold, SeeMesh, letter_count, picks_left, used};
+ghost use Rattle.part_rules.specs.declared.course.Course.{Course};
+ghost use Rattle.part_store.specs.Labelled.{LabelledMesh};
+ghost use Rattle.refined_views.specs.Repeated.{refined_times};
+ghost use Rattle.world_run.specs.Drawn.{Draws, EndsAlone, IfAllIsTold, IsDrawn, drawn, letter_count, picks_left, used};
 ghost use Rattle.world_run.specs.Meshes.{labelled_mesh};
-ghost use Rattle.world_run.specs.Replay.{begun_parts};
-ghost use Rattle.world_run.specs.Told.{HasCause, RunTells};
+ghost use Rattle.world_run.specs.Replay.{all_next, first_parts};
+ghost use Rattle.world_run.specs.Rounds.{AreDone, HaveRefined, IsWhole, MayGoOn};
+ghost use Rattle.world_run.specs.Told.{HasCause, RunTells, came_to};
 ghost use Rattle.world_run.specs.Union.{union_in};
 ghost use Rattle.world_run.specs.Views.{seen_at};
 
 use crate::fault::RunFault;
-use crate::running::run;
-use crate::starting::{Begun, begin_all, tell_cells};
+use crate::round::run_next;
+use crate::starting::{start_all, tell_cells, tell_solid};
 use crate::uniting::reassemble;
 use carrier::{Carrier, Schedule};
 use ma_cells::{Batch, Label, Mesh, View};
@@ -31,11 +35,15 @@ pub struct World {
 }
 
 impl Model for World {
+    ghost use Rattle.std.specs.Prelude.{◌≡◌, false};
+    ghost use Rattle.world_run.specs.Rounds.{AreBetween};
     ghost use Rattle.world_run.specs.Told.{WorldState};
 
     ghost Value = { WorldState };
 
     ghost view = { λ w. record { parts = w.parts.items; letters = w.letters; spent = w.spent } };
+
+    ghost invariant = { λ w. w.spent ≡ false → AreBetween (record { parts = w.parts.items; letters = w.letters; spent = w.spent }) };
 }
 
 impl World {
@@ -58,28 +66,56 @@ impl World {
         requires tets { are_on_grid course.grid mesh.now.tets ≡ true }
         requires marks { marks_are_on_grid course.grid mesh.now.marks ≡ true }
         requires below { All (λ label. label < course.parts) labels.now }
-        ensures told { IfSome (C.carried carrier.old).given (λ before. RunTells (begun_parts course (labelled_mesh mesh.now labels.now)) before (C.carried carrier.new).given result) }
-        ensures drawn { IfAllIsTold (C.carried carrier.old) (λ before. length mesh.now.tets ≤ most_told → Draws course (labelled_mesh mesh.now labels.now) (picks_left schedule.old) before (C.carried carrier.new) result) }
-        ensures views { IfAllIsTold (C.carried carrier.old) (λ before. length mesh.now.tets ≤ most_told → IfOk result (λ world. SeeMesh (labelled_mesh mesh.now labels.now) world.parts)) }
-        ensures alone { course.parts ≡ 1 → length mesh.now.tets ≤ most_told → EndsAlone course (labelled_mesh mesh.now labels.now) (C.carried carrier.old) (C.carried carrier.new) result }
+        ensures told { IfSome (C.carried carrier.old).given (λ before. RunTells (all_next (first_parts course (labelled_mesh mesh.now labels.now))) 0 before (C.carried carrier.new).given result) }
+        ensures drawn { IfAllIsTold (C.carried carrier.old) (λ before. length mesh.now.tets ≤ most_told → Draws 0 (labelled_mesh mesh.now labels.now) (drawn course 0 (first_parts course (labelled_mesh mesh.now labels.now)) (picks_left schedule.old)) 0 before (C.carried carrier.new) result) }
+        ensures alone { course.parts ≡ 1 → length mesh.now.tets ≤ most_told → EndsAlone 0 (labelled_mesh mesh.now labels.now) (all_next (first_parts course (labelled_mesh mesh.now labels.now))) (C.carried carrier.old) (C.carried carrier.new) result }
+        ensures whole { IfOk result (λ world. IsWhole course (labelled_mesh mesh.now labels.now)) }
+        ensures done { IfOk result (λ world. AreDone course 1 world.parts) }
         ensures letters { IfOk result (λ world. world.letters ≡ letter_count course.parts) }
-        ensures parts { IfOk result (λ world. length world.parts ≡ course.parts) }
         ensures unspent { IfOk result (λ world. world.spent ≡ false) }
         ensures used { IfOk result (λ world. schedule.new ≡ used schedule.old world.letters) }
+        ensures faults { (C.carried carrier.old).faults ≤ (C.carried carrier.new).faults }
+        ensures dry { (C.carried carrier.old).dry ≤ (C.carried carrier.new).dry }
         ensures cause { HasCause (C.carried carrier.old) (C.carried carrier.new) result }
     {
         tell_cells(mesh.marks());
-        let mut sent = Vec::new(alloc);
-        let Begun { mut parts, excess } = begin_all(alloc, &course, mesh, labels, &mut sent)?;
-        if let Some(excess) = excess {
-            return Err(excess.fault());
-        }
-        let letters = run(alloc, parts.as_mut_slice(), sent, carrier, schedule)?;
+        tell_solid(mesh.tets());
+        let mut parts = start_all(alloc, &course, mesh, labels)?;
+        let letters = run_next(alloc, parts.as_mut_slice(), carrier, schedule)?;
         Ok(World {
             parts,
             letters,
             spent: false,
         })
+    }
+
+    /// Runs another round, which the parts begin in ascending order: each refines its own of the
+    /// mesh by itself. After a fault the world is spent.
+    pub fn run_round<C: Carrier>(
+        &mut self,
+        alloc: Global,
+        carrier: &mut C,
+        schedule: &mut Schedule,
+    ) -> Result<(), RunFault>
+        requires may { MayGoOn self.old }
+        ensures told { IfSome (C.carried carrier.old).given (λ before. RunTells (all_next self.old.parts) self.old.letters before (C.carried carrier.new).given (came_to self.new result)) }
+        ensures drawn { IfAllIsTold (C.carried carrier.old) (λ before. (course : Course) (mesh : LabelledMesh) (round : ℕ) → IsWhole course mesh → HaveRefined course mesh round self.old.parts → Draws (round + 1) (refined_times (round + 1) course.field mesh) (drawn course (round + 1) self.old.parts (picks_left schedule.old)) self.old.letters before (C.carried carrier.new) (came_to self.new result)) }
+        ensures alone { (course : Course) (mesh : LabelledMesh) (round : ℕ) → course.parts ≡ 1 → IsWhole course mesh → HaveRefined course mesh round self.old.parts → EndsAlone (round + 1) (refined_times (round + 1) course.field mesh) (all_next self.old.parts) (C.carried carrier.old) (C.carried carrier.new) (came_to self.new result) }
+        ensures follows { OnOk result (IfAllIsTold (C.carried carrier.old) (λ before. (course : Course) (rounds : ℕ) → AreDone course rounds self.old.parts → IsDrawn (drawn course rounds self.old.parts (picks_left schedule.old)) self.old.letters before (C.carried carrier.new) self.new)) }
+        ensures done { OnOk result ((course : Course) (rounds : ℕ) → AreDone course rounds self.old.parts → AreDone course (rounds + 1) self.new.parts) }
+        ensures letters { OnOk result (self.new.letters ≡ self.old.letters + letter_count (length self.old.parts)) }
+        ensures used { OnOk result (schedule.new ≡ used schedule.old (letter_count (length self.old.parts))) }
+        ensures unspent { OnOk result (self.new.spent ≡ false) }
+        ensures spent { OnErr result (self.new.spent ≡ true) }
+        ensures faults { (C.carried carrier.old).faults ≤ (C.carried carrier.new).faults }
+        ensures dry { (C.carried carrier.old).dry ≤ (C.carried carrier.new).dry }
+        ensures cause { HasCause (C.carried carrier.old) (C.carried carrier.new) result }
+    {
+        self.spent = true;
+        let letters = run_next(alloc, self.parts.as_mut_slice(), carrier, schedule)?;
+        self.letters += letters;
+        self.spent = false;
+        Ok(())
     }
 
     /// A part. Takes no memory.

@@ -3,27 +3,22 @@
 --     Exceeds        that a part has found them
 --     Says           what one part says, and SaysAll what the first of all says
 --     AreUnspent     that all parts can go on
+--     MayAllBegin    that each can begin its next round
 --     owed_all       how many letters all are owed
---     letters_begun  the letters of all that begin round 0
---     part_begun     what comes of a part of a mesh that begins it
+--     letters_next   the letters of all that begin their next round
+--     AreKept        that parts are those of before: of the same course, with their number and the rounds that they have begun
 use Rattle.std.specs.Prelude.{◌≡◌, ◌<◌, ◌+◌, ◌/◌, ℕ, true, false, List, [], ◌∷◌, map, Option, Some, None}
 use Rattle.std.specs.List.{AllByRecursion, flat_map}
-use Rattle.ma_geom.specs.Coordinates.{Coordinates}
-use Rattle.letters.specs.declared.letter.Body.{Body}
 use Rattle.letters.specs.declared.letter.Letter.{Letter}
-use Rattle.part_core.specs.Parts.{PartState, first_part, sent}
+use Rattle.part_core.specs.Parts.{MayBegin, PartState, sent}
 use Rattle.part_core.specs.declared.answers.Step.{Step}
 use Rattle.part_core.specs.declared.answers.Step.TheVariants as steps
-use Rattle.part_phases.specs.Inboxes.{below}
 use Rattle.part_phases.specs.Owed.{letters_owed}
-use Rattle.part_phases.specs.Phases.{begun}
-use Rattle.part_phases.specs.Standings as phases
 use Rattle.part_rules.specs.Bodies.{posts_in}
 use Rattle.part_rules.specs.Ends.{most_tets, total_by}
 use Rattle.part_rules.specs.Rounds.{rules}
 use Rattle.part_rules.specs.declared.course.Course.{Course}
-use Rattle.part_store.specs.Labelled.{LabelledMesh, own_of}
-use Rattle.part_store.specs.Stores.{StoreState}
+use Rattle.world_run.specs.Replay.{next_outcome}
 use Rattle.world_run.specs.Told.{IsOver}
 use Rattle.world_run.specs.declared.excess.Excess.{Excess}
 
@@ -45,6 +40,9 @@ Says part (Some excess) = Exceeds part excess
 abbrev pub AreUnspent : List PartState → Type 0
 AreUnspent parts = AllByRecursion (λ part. part.spent ≡ false) parts
 
+abbrev pub MayAllBegin : List PartState → Type 0
+MayAllBegin parts = AllByRecursion (λ part. MayBegin part part.begun) parts
+
 abbrev pub SaysAll : List PartState → Option Excess → Type 0
 SaysAll parts None = AreUnspent parts
 SaysAll parts (Some excess) = IsOver parts excess.round excess.stage excess.count
@@ -53,10 +51,13 @@ abbrev pub owed_all : List PartState → ℕ
 owed_all [] = 0
 owed_all (part ∷ parts) = letters_owed (rules part.course) part.standing + owed_all parts
 
-abbrev pub part_begun : Course → LabelledMesh → ℕ → phases.Outcome StoreState Body Coordinates
-part_begun course mesh p =
-    let part : PartState = first_part p course (own_of mesh p) mesh.marks in
-    begun (rules course) 0 part.standing
+-- the letters, as they are posted
+abbrev pub letters_next : List PartState → List Letter
+letters_next parts = flat_map (λ part. map sent (next_outcome part).letters) parts
 
-abbrev pub letters_begun : Course → LabelledMesh → List Letter
-letters_begun course mesh = flat_map (λ p. map sent (part_begun course mesh p).letters) (below course.parts)
+-- what no letter changes of a part
+abbrev pub known_of : PartState → Course × ℕ × ℕ
+known_of part = (part.course, part.standing.me, part.begun)
+
+abbrev pub AreKept : List PartState → List PartState → Type 0
+AreKept old new = map known_of new ≡ map known_of old

@@ -63,7 +63,7 @@ Ran old new before now letters = (grown : Letters) × (now ≡ Some (before ++ g
 
 abbrev pub Runs : (old new : List PartState) → (before : Letters) → (now : Option Letters) → Result ℕ RunFault → Type 0
 Runs old new before now (Ok letters) = (grown : Letters) × (now ≡ Some (before ++ grown)) × (new ≡ handed_all old grown) × (all_done new ≡ true) × (letters ≡ length grown)
-Runs old new before now (Err fault) = RunTells old before now (Err fault)
+Runs old new before now (Err fault) = RunTells old 0 before now (Err fault)
 
 -- what comes of a run of parts that are all done
 abbrev pub Rests : (old new : List PartState) → (before now : Carried) → Result ℕ RunFault → Type 0
