@@ -6,7 +6,7 @@ use Rattle.std.proofs.lemmas.List.{append-nil, map-append}
 use Rattle.ma_cells.specs.declared.view.View.{View}
 use Rattle.msh_write.specs.Text.{text_of}
 use Rattle.ma_cells.specs.declared.batch.Batch.{Batch}
-use Rattle.one_mesh.specs.Adaptation.{Plan, StaysWithin, adapted}
+use Rattle.one_mesh.specs.Adaptation.{Plan, StaysWithin}
 use Rattle.meshadapt.specs.Acts.{Act, PutLine, StoreFile, Ending, Output, acts_to, begun, bytes_of, end_acts, lines, outputs, part_act, round_acts, rounds_among, view_output}
 use Rattle.meshadapt.specs.Printed.{mesh_line, mesh_name, round_line}
 use Rattle.meshadapt.specs.Verdict.{Inputs, plan_of}
@@ -39,32 +39,52 @@ lines-append (PutLine line ∷ xs) ys = let more = lines-append xs ys in omega a
 lines-append (StoreFile name bytes ∷ xs) ys = lines-append xs ys
 
 -- ---- rounds
-pub rounds_store_nothing : (plan : Plan) (rounds : ℕ) (mesh : Batch) → outputs (round_acts plan rounds mesh) ≡ []
-rounds_store_nothing plan zero mesh = refl
-rounds_store_nothing plan (suc n) mesh =
-    outputs-append (round_acts plan n mesh) (PutLine (round_line (suc n) (adapted plan (suc n) mesh)) ∷ [])
-    ∙ ap (λ (outs : List Output). outs ++ []) (rounds_store_nothing plan n mesh)
+-- the line of a round
+abbrev line_act : (meshes : ℕ → Batch) → ℕ → Act
+line_act meshes round = PutLine (round_line round (meshes round))
 
-a_line_a_round : (plan : Plan) (rounds : ℕ) (mesh : Batch) → length (lines (round_acts plan rounds mesh)) ≡ rounds
-a_line_a_round plan zero mesh = refl
-a_line_a_round plan (suc n) mesh =
-    let before = a_line_a_round plan n mesh in
-    let both = lines-append (round_acts plan n mesh) (PutLine (round_line (suc n) (adapted plan (suc n) mesh)) ∷ []) in
+pub rounds_store_nothing : (meshes : ℕ → Batch) (rounds : ℕ) → outputs (round_acts meshes rounds) ≡ []
+rounds_store_nothing meshes zero = refl
+rounds_store_nothing meshes (suc n) = outputs-append (round_acts meshes n) (line_act meshes (suc n) ∷ []) ∙ ap (λ (outs : List Output). outs ++ []) (rounds_store_nothing meshes n)
+
+a_line_a_round : (meshes : ℕ → Batch) (rounds : ℕ) → length (lines (round_acts meshes rounds)) ≡ rounds
+a_line_a_round meshes zero = refl
+a_line_a_round meshes (suc n) =
+    let before = a_line_a_round meshes n in
+    let both = lines-append (round_acts meshes n) (line_act meshes (suc n) ∷ []) in
+    omega arith
+
+an_act_a_round : (meshes : ℕ → Batch) (rounds : ℕ) → length (round_acts meshes rounds) ≡ rounds
+an_act_a_round meshes zero = refl
+an_act_a_round meshes (suc n) =
+    let before = an_act_a_round meshes n in
+    let both = length-append (round_acts meshes n) (line_act meshes (suc n) ∷ []) in
     omega arith
 
 -- fewer rounds come first
-pub rounds_front : (plan : Plan) (few rounds : ℕ) (mesh : Batch) → few ≤ rounds → (more : List Act) × (round_acts plan rounds mesh ≡ round_acts plan few mesh ++ more)
-rounds_front plan few zero mesh h = let none : 0 ≡ few = omega arith in ([], subst (λ (n : ℕ). [] ≡ round_acts plan n mesh ++ []) none refl)
-rounds_front plan few (suc n) mesh h =
-    let last : List Act = PutLine (round_line (suc n) (adapted plan (suc n) mesh)) ∷ [] in
+pub rounds_front : (meshes : ℕ → Batch) (few rounds : ℕ) → few ≤ rounds → (more : List Act) × (round_acts meshes rounds ≡ round_acts meshes few ++ more)
+rounds_front meshes few zero h = let none : 0 ≡ few = omega arith in ([], subst (λ (n : ℕ). [] ≡ round_acts meshes n ++ []) none refl)
+rounds_front meshes few (suc n) h =
+    let last : List Act = line_act meshes (suc n) ∷ [] in
     elim (cases_lt few (suc n)) [
       | inl less ↦
-          let before = rounds_front plan few n mesh (omega arith) in
-          (before.0 ++ last, ap (λ (xs : List Act). xs ++ last) before.1 ∙ append_assoc (round_acts plan few mesh) before.0 last)
+          let before = rounds_front meshes few n (omega arith) in
+          (before.0 ++ last, ap (λ (xs : List Act). xs ++ last) before.1 ∙ append_assoc (round_acts meshes few) before.0 last)
       | inr not_less ↦
           let all : suc n ≡ few = omega arith in
-          ([], subst (λ (k : ℕ). round_acts plan (suc n) mesh ≡ round_acts plan k mesh ++ []) all (sym (append-nil (round_acts plan (suc n) mesh))))
+          ([], subst (λ (k : ℕ). round_acts meshes (suc n) ≡ round_acts meshes k ++ []) all (sym (append-nil (round_acts meshes (suc n)))))
     ]
+
+-- a line more
+pub one_line_more : (meshes : ℕ → Batch) (done : ℕ) → bytes_of (round_acts meshes (suc done)) ≡ bytes_of (round_acts meshes done) ++ round_line (suc done) (meshes (suc done))
+one_line_more meshes done = bytes_of-line (round_acts meshes done) (round_line (suc done) (meshes (suc done)))
+
+-- the acts of rounds are those of the meshes after them
+pub same_rounds : (meshes others : ℕ → Batch) (rounds : ℕ) → ((round : ℕ) → round ≤ rounds → meshes round ≡ others round) → round_acts meshes rounds ≡ round_acts others rounds
+same_rounds meshes others zero same = refl
+same_rounds meshes others (suc n) same =
+    ap (λ (mesh : Batch). round_acts meshes n ++ PutLine (round_line (suc n) mesh) ∷ []) (same (suc n) (omega arith))
+    ∙ ap (λ (acts : List Act). acts ++ line_act others (suc n) ∷ []) (same_rounds meshes others n (λ round within. same round (omega arith)))
 
 pub fewer_stay_within : (plan : Plan) (few rounds : ℕ) (mesh : Batch) → few ≤ rounds → StaysWithin plan rounds mesh → StaysWithin plan few mesh
 fewer_stay_within plan few rounds mesh h within = λ round stage least greatest last. within round stage least (omega arith) last
@@ -82,31 +102,35 @@ module _ (job : Job) (inputs : Inputs) where
       let most = min-le_right job.rounds (length (lines (PutLine line ∷ [])) - 1) in
       fewer_stay_within (plan_of job inputs) (rounds_among job (PutLine line ∷ [])) 0 inputs.mesh (omega arith) (none_pass (plan_of job inputs) inputs.mesh)
 
-  pub among_begun : (done : ℕ) (line : List ℕ) → StaysWithin (plan_of job inputs) (done + 1) inputs.mesh
-      → StaysWithin (plan_of job inputs) (rounds_among job (begun done job inputs ++ PutLine line ∷ [])) inputs.mesh
-  among_begun done line within =
-      let plan : Plan = plan_of job inputs in
-      let reached : List Act = begun done job inputs ++ PutLine line ∷ [] in
-      let before = a_line_a_round plan done inputs.mesh in
-      let both = lines-append (begun done job inputs) (PutLine line ∷ []) in
-      let most = min-le_right job.rounds (length (lines reached) - 1) in
-      fewer_stay_within plan (rounds_among job reached) (done + 1) inputs.mesh (omega arith) within
+  module _ (meshes : ℕ → Batch) where
+    pub among_begun : (done : ℕ) (line : List ℕ) → StaysWithin (plan_of job inputs) (done + 1) inputs.mesh
+        → StaysWithin (plan_of job inputs) (rounds_among job (begun done inputs meshes ++ PutLine line ∷ [])) inputs.mesh
+    among_begun done line within =
+        let plan : Plan = plan_of job inputs in
+        let reached : List Act = begun done inputs meshes ++ PutLine line ∷ [] in
+        let before = a_line_a_round meshes done in
+        let both = lines-append (begun done inputs meshes) (PutLine line ∷ []) in
+        let most = min-le_right job.rounds (length (lines reached) - 1) in
+        fewer_stay_within plan (rounds_among job reached) (done + 1) inputs.mesh (omega arith) within
 
-  -- behind the acts up to a round comes the next round's line
-  pub next_round : (done : ℕ) → done + 1 ≤ job.rounds
-      → (rest : List Act) × (begun job.rounds job inputs ≡ begun done job inputs ++ PutLine (round_line (done + 1) (adapted (plan_of job inputs) (done + 1) inputs.mesh)) ∷ rest)
-  next_round done more =
-      let plan : Plan = plan_of job inputs in
-      let first : Act = PutLine (mesh_line inputs.mesh inputs.loose) in
-      let next : Act = PutLine (round_line (suc done) (adapted plan (suc done) inputs.mesh)) in
-      let behind = rounds_front plan (suc done) job.rounds inputs.mesh (omega arith) in
-      let xs : List Act = round_acts plan done inputs.mesh in
-      let rest : List Act = behind.0 in
-      let same : round_acts plan job.rounds inputs.mesh ≡ xs ++ next ∷ rest = behind.1 ∙ append_assoc xs (next ∷ []) rest in
-      (rest, subst (λ (n : ℕ). begun job.rounds job inputs ≡ begun done job inputs ++ PutLine (round_line n (adapted plan n inputs.mesh)) ∷ rest) (sym (add-one done)) (ap (λ (ys : List Act). first ∷ ys) same))
+    -- behind the acts up to a round comes the next round's line
+    pub next_round : (done : ℕ) → done + 1 ≤ job.rounds
+        → (rest : List Act) × (begun job.rounds inputs meshes ≡ begun done inputs meshes ++ PutLine (round_line (done + 1) (meshes (done + 1))) ∷ rest)
+    next_round done more =
+        let first : Act = PutLine (mesh_line inputs.mesh inputs.loose) in
+        let next : Act = line_act meshes (suc done) in
+        let behind = rounds_front meshes (suc done) job.rounds (omega arith) in
+        let xs : List Act = round_acts meshes done in
+        let rest : List Act = behind.0 in
+        let same : round_acts meshes job.rounds ≡ xs ++ next ∷ rest = behind.1 ∙ append_assoc xs (next ∷ []) rest in
+        (rest, subst (λ (n : ℕ). begun job.rounds inputs meshes ≡ begun done inputs meshes ++ PutLine (round_line n (meshes n)) ∷ rest) (sym (add-one done)) (ap (λ (ys : List Act). first ∷ ys) same))
 
-  pub begun_store_nothing : outputs (begun job.rounds job inputs) ≡ []
-  begun_store_nothing = rounds_store_nothing (plan_of job inputs) job.rounds inputs.mesh
+    pub begun_store_nothing : (rounds : ℕ) → outputs (begun rounds inputs meshes) ≡ []
+    begun_store_nothing rounds = rounds_store_nothing meshes rounds
+
+    -- the line of the mesh, and one for each round
+    pub begun_long : (rounds : ℕ) → length (begun rounds inputs meshes) ≡ rounds + 1
+    begun_long rounds = let each = an_act_a_round meshes rounds in omega arith
 
 -- what comes before an act of some is shorter than they
 pub shorter : (acts done rest : List Act) (act : Act) → acts ≡ done ++ act ∷ rest → length done < length acts
@@ -132,7 +156,7 @@ stores-bytes (output ∷ outs) = stores-bytes outs
 -- ---- the end of a run
 module _ (job : Job) (inputs : Inputs) (ending : Ending) where
   abbrev pub all_outputs : List Output
-  all_outputs = record { name = mesh_name job; bytes = text_of ending.mesh inputs.names } ∷ map (view_output job inputs) ending.views
+  all_outputs = record { name = mesh_name job; bytes = text_of (ending.meshes job.rounds) inputs.names } ∷ map (view_output job inputs) ending.views
 
   abbrev pub last_act : Act
   last_act = PutLine ending.line
@@ -142,10 +166,10 @@ module _ (job : Job) (inputs : Inputs) (ending : Ending) where
   part_acts (view ∷ views) = ap (λ (acts : List Act). part_act job inputs view ∷ acts) (part_acts views)
 
   end_is : end_acts job inputs ending ≡ stores_of all_outputs ++ last_act ∷ []
-  end_is = ap (λ (acts : List Act). StoreFile (mesh_name job) (text_of ending.mesh inputs.names) ∷ (acts ++ last_act ∷ [])) (part_acts ending.views)
+  end_is = ap (λ (acts : List Act). StoreFile (mesh_name job) (text_of (ending.meshes job.rounds) inputs.names) ∷ (acts ++ last_act ∷ [])) (part_acts ending.views)
 
   abbrev pub before_end : List Act
-  before_end = begun job.rounds job inputs
+  before_end = begun job.rounds inputs ending.meshes
 
   pub acts_are : acts_to ending job inputs ≡ before_end ++ (stores_of all_outputs ++ last_act ∷ [])
   acts_are = ap (λ (acts : List Act). before_end ++ acts) end_is
@@ -156,7 +180,7 @@ module _ (job : Job) (inputs : Inputs) (ending : Ending) where
     stored = before_end ++ stores_of done
 
     pub stored-outputs : outputs stored ≡ done
-    stored-outputs = outputs-append before_end (stores_of done) ∙ (ap (λ (outs : List Output). outs ++ outputs (stores_of done)) (begun_store_nothing job inputs) ∙ stores-outputs done)
+    stored-outputs = outputs-append before_end (stores_of done) ∙ (ap (λ (outs : List Output). outs ++ outputs (stores_of done)) (begun_store_nothing job inputs ending.meshes job.rounds) ∙ stores-outputs done)
 
     pub stored-bytes : bytes_of stored ≡ bytes_of before_end
     stored-bytes = bytes_of-append before_end (stores_of done) ∙ (ap (λ (bytes : List ℕ). bytes_of before_end ++ bytes) (stores-bytes done) ∙ append-nil (bytes_of before_end))

@@ -1,28 +1,53 @@
--- What the run of the parts of a mesh that was fetched requires, and what it comes to.
-use Rattle.std.proofs.Common.{◌≡◌, ◌≤◌, List, ℕ, length, Some, sym, subst, inl, inr}
+-- What the start of the parts of a mesh that was fetched requires, and what it comes to.
+use Rattle.std.proofs.Common.{◌≡◌, ◌≤◌, List, ℕ, length, Some, false, sym, subst}
 use Rattle.std.specs.Prelude.{IfSome, Result, Ok, Err}
 use Rattle.carrier.specs.Carried.{Carried}
+use Rattle.carrier.specs.Schedule.{Picks}
 use Rattle.directory.specs.Posting.{most_told}
 use Rattle.part_rules.specs.declared.course.Course.{Course}
+use Rattle.part_store.specs.Labelled.{LabelledMesh}
 use Rattle.size_marks.specs.Field.{Field}
-use Rattle.world_run.specs.Drawn.{Draws, EndsAlone, IfAllIsTold, SeeMesh, letter_count, picks_left}
+use Rattle.world_run.specs.Drawn.{Draws, EndsAlone, IfAllIsTold, drawn, letter_count, picks_left, used}
 use Rattle.world_run.specs.Meshes.{labelled_mesh}
-use Rattle.world_run.specs.Replay.{begun_parts}
+use Rattle.world_run.specs.Replay.{all_next, first_parts}
+use Rattle.world_run.specs.Rounds.{AreDone, IsWhole}
 use Rattle.world_run.specs.Told.{HasCause, RunTells, WorldState}
 use Rattle.world_run.specs.declared.fault.RunFault.{RunFault}
 use Rattle.meshadapt.specs.declared.fetching.Accepted.{Accepted}
 use Rattle.meshadapt.specs.declared.fetching.Handout.{Handout as FetchedHandout}
-use Rattle.meshadapt.specs.declared.halt.Halt.TheVariants as halt
 use Rattle.meshadapt.specs.declared.words.Job.{Job as Words}
-use Rattle.meshadapt.specs.Outcome.{AllArrive, ComesOf, course_of}
+use Rattle.meshadapt.specs.OverParts.{StartComes, course_of}
 use Rattle.meshadapt.specs.Verdict.{Handout, Inputs}
 use Rattle.meshadapt.specs.Words.{Job}
 use Rattle.meshadapt.specs.steps.Asking.{IsInRange, asked}
 use Rattle.meshadapt.specs.steps.Fetching.{HandoutFits, IsRunnable, handout_of, inputs_over}
-use Rattle.meshadapt.specs.steps.Running.{EndsParts, RunsParts}
-use Rattle.meshadapt.proofs.HandedOut.{CanStart, can_start}
+use Rattle.meshadapt.specs.steps.OverRounds.{BreaksFirst, HaveCome}
+use Rattle.meshadapt.proofs.HandedOut.{CanStart, can_start, may_run}
+use Rattle.meshadapt.proofs.PartRounds.{broke_first, came_first}
 
-module _ (words : Words) (accepted : Accepted) (fetched : FetchedHandout) (right : IsInRange words) (runs : IsRunnable accepted.mesh accepted.grid) (fits : HandoutFits words.division (length accepted.mesh.tets) (Some fetched)) (field : Field) where
+-- what the call that starts parts tells, of a course and labels that it was handed
+module _ (accepted : Accepted) (fetched : FetchedHandout) (left : Picks) (s t : Carried) where
+  abbrev mesh_of : List ℕ → LabelledMesh
+  mesh_of labels = labelled_mesh accepted.mesh labels
+
+  pub record StartTells (course : Course) (labels : List ℕ) (result : Result WorldState RunFault) : Type 0 where
+    pub told : IfSome s.given (λ before. RunTells (all_next (first_parts course (mesh_of labels))) 0 before t.given result)
+    pub drawn : IfAllIsTold s (λ before. length accepted.mesh.tets ≤ most_told
+        → Draws 0 (mesh_of labels) (drawn course 0 (first_parts course (mesh_of labels)) (picks_left fetched.schedule)) 0 before t result)
+    pub alone : course.parts ≡ 1 → length accepted.mesh.tets ≤ most_told → EndsAlone 0 (mesh_of labels) (all_next (first_parts course (mesh_of labels))) s t result
+
+  pub record IsStarted (course : Course) (labels : List ℕ) (world : WorldState) : Type 0 where
+    pub tells : StartTells course labels (Ok world)
+    pub is_whole : IsWhole course (mesh_of labels)
+    pub done : AreDone course 1 world.parts
+    pub letters : world.letters ≡ letter_count course.parts
+    pub unspent : world.spent ≡ false
+    pub picks : left ≡ used fetched.schedule world.letters
+    pub faults : s.faults ≤ t.faults
+    pub dry : s.dry ≤ t.dry
+
+module _ (words : Words) (accepted : Accepted) (fetched : FetchedHandout) (right : IsInRange words) (runs : IsRunnable accepted.mesh accepted.grid) (fits : HandoutFits words.division (length accepted.mesh.tets) (Some fetched))
+    (finer : words.rounds ≤ accepted.grid) (field : Field) where
   abbrev pub job : Job
   job = asked words
 
@@ -38,44 +63,22 @@ module _ (words : Words) (accepted : Accepted) (fetched : FetchedHandout) (right
         subst (λ (ls : List ℕ). CanStart accepted.mesh ls course.parts course.grid) (sym same)
         (subst (λ (x : Course). CanStart accepted.mesh handout.labels x.parts x.grid) (sym is) (can_start words accepted fetched right runs fits))
 
-    module _ (s t : Carried) where
-      abbrev Tells : Course → List ℕ → Result WorldState RunFault → Type 0
-      Tells x ls result = IfSome s.given (λ before. RunTells (begun_parts x (labelled_mesh accepted.mesh ls)) before t.given result)
+    module _ (left : Picks) (s t : Carried) where
+      comes_so : (result : Result WorldState RunFault) → StartTells accepted fetched left s t (course_of job inputs handout) handout.labels result → StartComes job inputs handout s t result
+      comes_so result tells = record {
+        told = tells.told;
+        drawn = λ before held given. tells.drawn before held given may_start.few;
+        alone = λ one. tells.alone one may_start.few;
+      }
 
-      abbrev DrawsSo : Course → List ℕ → Result WorldState RunFault → Type 0
-      DrawsSo x ls result = IfAllIsTold s (λ before. length accepted.mesh.tets ≤ most_told → Draws x (labelled_mesh accepted.mesh ls) (picks_left fetched.schedule) before t result)
+      pub starts_so : (world : WorldState) → IsStarted accepted fetched left s t course labels world → HaveCome job inputs handout (λ _. world) 0 left s t
+      starts_so world tells =
+          let started : IsStarted accepted fetched left s t (course_of job inputs handout) handout.labels world
+          = subst (λ (ls : List ℕ). IsStarted accepted fetched left s t (course_of job inputs handout) ls world) same (subst (λ (x : Course). IsStarted accepted fetched left s t x labels world) is tells) in
+          came_first job inputs handout (may_run words accepted fetched right runs fits field finer) s t world left (comes_so (Ok world) started.tells) started.is_whole started.done started.letters started.unspent started.picks started.faults started.dry
 
-      abbrev AloneSo : Course → List ℕ → Result WorldState RunFault → Type 0
-      AloneSo x ls result = x.parts ≡ 1 → length accepted.mesh.tets ≤ most_told → EndsAlone x (labelled_mesh accepted.mesh ls) s t result
-
-      pub comes_so : (result : Result WorldState RunFault) → Tells course labels result → DrawsSo course labels result → AloneSo course labels result → ComesOf job inputs handout s t result
-      comes_so result told drawn alone =
-          let draws : DrawsSo (course_of job inputs handout) handout.labels result
-          = subst (λ (ls : List ℕ). DrawsSo (course_of job inputs handout) ls result) same (subst (λ (x : Course). DrawsSo x labels result) is drawn) in
-          let ends : AloneSo (course_of job inputs handout) handout.labels result
-          = subst (λ (ls : List ℕ). AloneSo (course_of job inputs handout) ls result) same (subst (λ (x : Course). AloneSo x labels result) is alone) in
-          record {
-            told = subst (λ (ls : List ℕ). Tells (course_of job inputs handout) ls result) same (subst (λ (x : Course). Tells x labels result) is told);
-            drawn = λ before held given. draws before held given may_start.few;
-            alone = λ one. ends one may_start.few;
-          }
-
-      abbrev SeesSo : List ℕ → WorldState → Type 0
-      SeesSo ls world = IfAllIsTold s (λ before. length accepted.mesh.tets ≤ most_told → SeeMesh (labelled_mesh accepted.mesh ls) world.parts)
-
-      see_so : (world : WorldState) → ComesOf job inputs handout s t (Ok world) → SeesSo handout.labels world → AllArrive handout.parts s → SeeMesh (labelled_mesh accepted.mesh handout.labels) world.parts
-      see_so world comes views (inl one) = (comes.alone one).3
-      see_so world comes views (inr all) = views all.1.0 all.0 all.1.1 may_start.few
-
-      pub ends_so : (world : WorldState) → Tells course labels (Ok world) → DrawsSo course labels (Ok world) → AloneSo course labels (Ok world) → SeesSo labels world
-          → world.letters ≡ letter_count course.parts → length world.parts ≡ course.parts → EndsParts job inputs handout s t world
-      ends_so world told drawn alone views letters parts =
-          let comes : ComesOf job inputs handout s t (Ok world) = comes_so (Ok world) told drawn alone in
-          record {
-            comes = comes;
-            all = record { parts = subst (λ (x : Course). length world.parts ≡ x.parts) is parts; letters = subst (λ (x : Course). world.letters ≡ letter_count x.parts) is letters };
-            see = see_so world comes (subst (λ (ls : List ℕ). SeesSo ls world) same views);
-          }
-
-      pub stops_so : (fault : RunFault) → Tells course labels (Err fault) → DrawsSo course labels (Err fault) → AloneSo course labels (Err fault) → HasCause {W = WorldState} s t (Err fault) → RunsParts (Err (halt.Parts fault)) job inputs handout s t
-      stops_so fault told drawn alone cause = (comes_so (Err fault) told drawn alone, cause)
+      pub stops_so : (fault : RunFault) → StartTells accepted fetched left s t course labels (Err fault) → HasCause {W = WorldState} s t (Err fault) → BreaksFirst job inputs handout s t fault
+      stops_so fault tells cause =
+          let stopped : StartTells accepted fetched left s t (course_of job inputs handout) handout.labels (Err fault)
+          = subst (λ (ls : List ℕ). StartTells accepted fetched left s t (course_of job inputs handout) ls (Err fault)) same (subst (λ (x : Course). StartTells accepted fetched left s t x labels (Err fault)) is tells) in
+          broke_first job inputs handout (may_run words accepted fetched right runs fits field finer) s t fault (comes_so (Err fault) stopped) cause

@@ -1,5 +1,5 @@
 -- How a run of a job goes on from step to step, and ends.
-use Rattle.std.proofs.Common.{◌≡◌, ℕ, List, [], ◌∷◌, ◌++◌, Option, Some, None, inl, inr, refl, sym, subst, ap, ◌∙◌, append_assoc}
+use Rattle.std.proofs.Common.{◌≡◌, ℕ, length, arith, List, [], ◌∷◌, ◌++◌, Option, Some, None, inl, inr, refl, sym, subst, ap, ◌∙◌, append_assoc}
 use Rattle.std.specs.Prelude.{◌⊎◌, IfSome, Result, Ok, Err, string_bytes}
 use Rattle.ma_cells.specs.declared.batch.Batch.{Batch}
 use Rattle.carrier.specs.Carried.{Carried}
@@ -13,15 +13,15 @@ use Rattle.one_mesh.specs.Adaptation.{StaysWithin}
 use Rattle.one_mesh.specs.Holding.{Holding}
 use Rattle.meshadapt.specs.declared.halt.Halt.{Halt}
 use Rattle.meshadapt.specs.declared.halt.Halt.TheVariants as halt
-use Rattle.meshadapt.specs.Acts.{Act, PutLine, Ending, Output, acts_to, begun, bytes_of, end_acts, final, outputs, plain_ending}
-use Rattle.meshadapt.specs.Outcome.{ComesTo, IsOnTheWay, LeavesDone, LeavesMemory, MayEnd, Puts, Seen, Stores, StoresFront, seen}
+use Rattle.meshadapt.specs.Acts.{Act, PutLine, Ending, Output, acts_to, adapted_by, begun, bytes_of, end_acts, outputs, plain_ending}
+use Rattle.meshadapt.specs.Outcome.{ComesTo, IsOnTheWay, LeavesDone, LeavesMemory, LettersArrive, MayEnd, Puts, Seen, Stores, StoresFront, seen}
 use Rattle.meshadapt.specs.Printed.{done_line, mesh_line, mesh_name}
 use Rattle.meshadapt.specs.Verdict.{Handout, Inputs, plan_of, verdict}
 use Rattle.meshadapt.specs.Words.{Job}
 use Rattle.meshadapt.specs.steps.Fetching.{Fetches}
 use Rattle.meshadapt.specs.steps.Running.{Begins, PutsLine, Runs, StoresOne}
 use Rattle.meshadapt.specs.steps.Storing.{BreaksBehind, StoresAll}
-use Rattle.meshadapt.proofs.Acting.{all-bytes, all-outputs, all_outputs, among_all, among_first, comes_last, comes_next, shorter, store_act, stored, stored-bytes, stored-outputs}
+use Rattle.meshadapt.proofs.Acting.{all-bytes, all-outputs, all_outputs, among_all, among_first, begun_long, comes_last, comes_next, shorter, store_act, stored, stored-bytes, stored-outputs}
 use Rattle.meshadapt.proofs.InTurn.{front_after, puts_then}
 use Rattle.meshadapt.proofs.OneByOne.{memory_behind, one_broken}
 
@@ -42,17 +42,23 @@ fetch_halts X Z view job d e c s halt.Memory same h = inl same
 
 module _ (job : Job) (inputs : Inputs) (c k : Carried) (d : Held) (s : Received) (v : IfSome d.files (λ files. verdict files job ≡ Ok inputs)) where
   -- ---- before the end
-  -- a line among those before the end, whatever the end is
-  on_the_way : (done rest : List Act) (act : Act) → begun job.rounds job inputs ≡ done ++ act ∷ rest → IsOnTheWay job inputs c k done act
-  on_the_way done rest act are =
+  -- an act of a run without parts, at a line before the end
+  on_the_way : inputs.handout ≡ None → (done rest : List Act) (act : Act) → begun job.rounds inputs (adapted_by job inputs) ≡ done ++ act ∷ rest → IsOnTheWay job inputs c k done act
+  on_the_way alone done rest act are =
       let ending : Ending = plain_ending job inputs in
       let end : List Act = end_acts job inputs ending in
+      let less = shorter (begun job.rounds inputs (adapted_by job inputs)) done rest act are in
+      let long = begun_long job inputs (adapted_by job inputs) job.rounds in
       record {
         ending = ending;
         rest = rest ++ end;
         acts_are = ap (λ (acts : List Act). acts ++ end) are ∙ append_assoc done (act ∷ rest) end;
-        ends = inl (shorter (begun job.rounds job inputs) done rest act are);
+        ends = inr (length done, inl (refl, omega arith), subst (λ (handout : Option Handout). MayEnd job inputs handout (length done) c k ending) (sym alone) refl);
       }
+
+  -- at the line of the mesh, whatever the end is
+  at_first : (e : Carried) → IsOnTheWay job inputs c e [] (PutLine (mesh_line inputs.mesh inputs.loose))
+  at_first e = record { ending = plain_ending job inputs; rest = _; acts_are = refl; ends = inl refl }
 
   -- the mesh isn't handed out
   pub begin_halts : (X Y : Type 0) (new : Holding) (e : Held) (t : Received) (why : Halt) → inputs.handout ≡ None → e.files ≡ d.files → Begins {X = X} (Err why) job inputs new s t → Runs {X = Y} (Err why) job (seen d c s) (seen e k t)
@@ -65,7 +71,7 @@ module _ (job : Job) (inputs : Inputs) (c k : Carried) (d : Held) (s : Received)
     inputs = inputs;
     done = h.done;
     line = h.line;
-    comes = record { words_are = refl; verdict = v; way = on_the_way h.done h.rest (PutLine h.line) h.acts_are; within = h.within };
+    comes = record { words_are = refl; verdict = v; way = on_the_way alone h.done h.rest (PutLine h.line) h.acts_are; within = λ _. h.within };
     files = subst (λ (outs : List Output). Stores outs d.files e.files) (sym h.none_stored) same;
     printed = h.front;
   }
@@ -85,7 +91,7 @@ module _ (job : Job) (inputs : Inputs) (c k : Carried) (d : Held) (s : Received)
         inputs = inputs;
         done = [];
         line = line;
-        comes = record { words_are = refl; verdict = v; way = on_the_way [] _ (PutLine line) refl; within = among_first job inputs line };
+        comes = record { words_are = refl; verdict = v; way = at_first k; within = λ _. among_first job inputs line };
         files = same;
         printed = h;
       }
@@ -93,8 +99,8 @@ module _ (job : Job) (inputs : Inputs) (c k : Carried) (d : Held) (s : Received)
   first_stops X Y e t halt.Memory same h = inl same
 
   -- ---- all lines before the end were put, and the run may end so
-  module _ (ending : Ending) (ends : MayEnd job inputs inputs.handout c k ending) (within : StaysWithin (plan_of job inputs) job.rounds inputs.mesh)
-      (e : Held) (t : Received) (same : e.files ≡ d.files) (counts : e.store_faults ≡ d.store_faults) (puts : Puts (bytes_of (begun job.rounds job inputs)) s t) where
+  module _ (ending : Ending) (ends : MayEnd job inputs inputs.handout job.rounds c k ending) (within : LettersArrive c inputs.handout → StaysWithin (plan_of job inputs) job.rounds inputs.mesh)
+      (e : Held) (t : Received) (same : e.files ≡ d.files) (counts : e.store_faults ≡ d.store_faults) (puts : Puts (bytes_of (begun job.rounds inputs ending.meshes)) s t) where
     abbrev all : List Output
     all = all_outputs job inputs ending
 
@@ -105,8 +111,8 @@ module _ (job : Job) (inputs : Inputs) (c k : Carried) (d : Held) (s : Received)
     comes_to done rest act are left is = record {
       words_are = refl;
       verdict = v;
-      way = record { ending = ending; rest = rest; acts_are = are; ends = inr (subst (λ (carried : Carried). MayEnd job inputs inputs.handout c carried ending) (sym is) ends) };
-      within = among_all job inputs (done ++ act ∷ []) within;
+      way = record { ending = ending; rest = rest; acts_are = are; ends = inr (job.rounds, inr refl, subst (λ (carried : Carried). MayEnd job inputs inputs.handout job.rounds c carried ending) (sym is) ends) };
+      within = λ arrive. among_all job inputs (done ++ act ∷ []) (within arrive);
     }
 
     puts_so : (done : List Output) → Puts (bytes_of (after done)) s t
@@ -164,7 +170,7 @@ module _ (job : Job) (inputs : Inputs) (c k : Carried) (d : Held) (s : Received)
         ending = ending;
         ends = ends;
         files = subst (λ (outs : List Output). Stores outs d.files f.files) (sym (all-outputs job inputs ending)) stores_so;
-        printed = subst (λ (bytes : List ℕ). Puts bytes s u) (sym (all-bytes job inputs ending)) (puts_then (bytes_of (begun job.rounds job inputs)) ending.line s t u puts h);
+        printed = subst (λ (bytes : List ℕ). Puts bytes s u) (sym (all-bytes job inputs ending)) (puts_then (bytes_of (begun job.rounds inputs ending.meshes)) ending.line s t u puts h);
       }
 
       pub done_halts : (X Y : Type 0) (u : Received) (why : Halt) → PutsLine {X = X} (Err why) ending.line t u → Runs {X = Y} (Err why) job (seen d c s) (seen f k u)
@@ -190,19 +196,19 @@ module _ (job : Job) (inputs : Inputs) (c k : Carried) (d : Held) (s : Received)
 
 -- ---- a run without parts
 module _ (job : Job) (inputs : Inputs) (c k : Carried) (d : Held) (s : Received) (v : IfSome d.files (λ files. verdict files job ≡ Ok inputs)) (alone : inputs.handout ≡ None) (within : StaysWithin (plan_of job inputs) job.rounds inputs.mesh)
-    (e : Held) (t : Received) (same : e.files ≡ d.files) (counts : e.store_faults ≡ d.store_faults) (puts : Puts (bytes_of (begun job.rounds job inputs)) s t) where
+    (e : Held) (t : Received) (same : e.files ≡ d.files) (counts : e.store_faults ≡ d.store_faults) (puts : Puts (bytes_of (begun job.rounds inputs (adapted_by job inputs))) s t) where
   abbrev plain : Ending
   plain = plain_ending job inputs
 
   abbrev mesh_file : Output
-  mesh_file = record { name = mesh_name job; bytes = text_of (final job inputs) inputs.names }
+  mesh_file = record { name = mesh_name job; bytes = text_of (adapted_by job inputs job.rounds) inputs.names }
 
-  ends_plain : MayEnd job inputs inputs.handout c k plain
-  ends_plain = subst (λ (handout : Option Handout). MayEnd job inputs handout c k plain) (sym alone) refl
+  ends_plain : MayEnd job inputs inputs.handout job.rounds c k plain
+  ends_plain = subst (λ (handout : Option Handout). MayEnd job inputs handout job.rounds c k plain) (sym alone) refl
 
-  pub plain_halts : (X Y : Type 0) (f : Held) (why : Halt) → StoresOne {X = X} (Err why) (mesh_name job) (text_of (final job inputs) inputs.names) e f → Runs {X = Y} (Err why) job (seen d c s) (seen f k t)
-  plain_halts X Y f why h = store_halts job inputs c k d s v plain ends_plain within e t same counts puts X Y f why (one_broken mesh_file e f X X why h)
+  pub plain_halts : (X Y : Type 0) (f : Held) (why : Halt) → StoresOne {X = X} (Err why) (mesh_name job) (text_of (adapted_by job inputs job.rounds) inputs.names) e f → Runs {X = Y} (Err why) job (seen d c s) (seen f k t)
+  plain_halts X Y f why h = store_halts job inputs c k d s v plain ends_plain (λ _. within) e t same counts puts X Y f why (one_broken mesh_file e f X X why h)
 
-  pub plain_ends : (f : Held) → StoresOne {X = Unit {0}} (Ok tt) (mesh_name job) (text_of (final job inputs) inputs.names) e f
+  pub plain_ends : (f : Held) → StoresOne {X = Unit {0}} (Ok tt) (mesh_name job) (text_of (adapted_by job inputs job.rounds) inputs.names) e f
       → (X : Type 0) (u : Received) (result : Result X Halt) → PutsLine result done_line t u → Runs result job (seen d c s) (seen f k u)
-  plain_ends f h = line_ends job inputs c k d s v plain ends_plain within e t same counts puts f h.0
+  plain_ends f h = line_ends job inputs c k d s v plain ends_plain (λ _. within) e t same counts puts f h.0

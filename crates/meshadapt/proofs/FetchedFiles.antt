@@ -40,6 +40,7 @@ use Rattle.mesh_check.proofs.GreatestGrid.{grid_is_greatest}
 use Rattle.mesh_check.proofs.MarksOn.{marks_on_cells}
 use Rattle.mesh_check.proofs.Numbered.{then_ok}
 use Rattle.meshadapt.specs.steps.Fetching.{AreLabels, IsRunnable}
+use Rattle.meshadapt.proofs.SetMesh.{set_is_as_many, set_is_sound}
 
 ok_is : {A E : Type 0} {x y : A} → ◌≡◌ {A = Result A E} (Ok x) (Ok y) → x ≡ y
 ok_is e = cc
@@ -159,4 +160,6 @@ accepted_is_runnable raw mesh e =
       rise = set.0;
       cells = fair.cells;
       on_cells = set.1;
+      sound = set_is_sound mesh fair;
+      once = set_is_as_many mesh fair;
     }

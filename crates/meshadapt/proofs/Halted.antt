@@ -10,7 +10,7 @@ use Rattle.meshadapt.specs.declared.status.Status.{Status}
 use Rattle.meshadapt.specs.declared.status.Status.TheVariants.{Usage, Memory}
 use Rattle.world_run.specs.declared.fault.RunFault.{RunFault}
 use Rattle.world_run.specs.declared.fault.RunFault.TheVariants as run
-use Rattle.meshadapt.specs.Acts.{begun, bytes_of}
+use Rattle.meshadapt.specs.Acts.{adapted_by, begun, bytes_of, meshes_by}
 use Rattle.meshadapt.specs.Outcome.{Leaves, LeavesMemory, LeavesParts, LeavesUnput, PutsLast, Seen, seen}
 use Rattle.meshadapt.specs.Printed.{bad_letter_line, file_name, link_fault_line, read_fault_line, refused_line, starved_line, too_many_line, usage_line, write_fault_line}
 use Rattle.meshadapt.specs.Words.{Job}
@@ -43,10 +43,14 @@ module _ (job : Job) (s m : Seen) (t : Received) where
     words_are = refl;
     verdict = h.verdict;
     handed = h.handed;
+    round = h.round;
+    upto = h.upto;
+    worlds = h.worlds;
     comes = h.comes;
     cause = h.cause;
+    meant = h.meant;
     files = h.files;
-    printed = last_after (bytes_of (begun 0 job h.inputs)) line s.sink m.sink t h.printed ended;
+    printed = last_after (bytes_of (begun (h.round - 1) h.inputs (meshes_by h.worlds))) line s.sink m.sink t h.printed ended;
   }
 
   parts_halted : (status : Status) (fault : RunFault) → HaltsParts fault job s m → PartsEnd status fault m.sink t → Left status
@@ -78,7 +82,7 @@ module _ (job : Job) (s m : Seen) (t : Received) where
         alone = h.alone;
         first = h.first;
         files = h.files;
-        printed = last_after (bytes_of (begun (round - 1) job h.inputs)) (too_many_line round stage count) s.sink m.sink t h.printed ended.1;
+        printed = last_after (bytes_of (begun (round - 1) h.inputs (adapted_by job h.inputs))) (too_many_line round stage count) s.sink m.sink t h.printed ended.1;
       }))
   halted_leaves X status (halt.TooMany round stage count) h (inr out) = memory_left status out (inl h.files)
   halted_leaves X status (halt.Unstored name) h (inl ended) =

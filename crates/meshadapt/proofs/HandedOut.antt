@@ -1,44 +1,38 @@
--- A mesh that is handed out: its parts can start, and where each sees its own of it, they end as is meant.
+-- A mesh that is handed out: its parts can start, and run the rounds of its job.
 use Rattle.std.proofs.Common.{◌≡◌, ℕ, zero, suc, ◌<◌, ◌≤◌, Bool, true, cond, List, [], ◌∷◌, ◌++◌, Option, Some, None, length, filter, map, take, refl, sym, subst, ap, ap₂, ◌∙◌, arith}
 use Rattle.std.specs.Prelude.{slice_get, is_some, false}
 use Rattle.std.specs.List.{All, list_all}
 use Rattle.std.specs.Option.{option_map}
 use Rattle.std.proofs.Math.Seq.{take-length}
 use Rattle.std.proofs.lemmas.Bool.{and_parts}
-use Rattle.std.proofs.lemmas.List.{map-append}
-use Rattle.ma_cells.specs.Cells.{CellMark, is_cell}
+use Rattle.std.proofs.lemmas.List.{length-map, map-append}
+use Rattle.std.proofs.lemmas.Option.{none-some, same_Some}
+use Rattle.ma_cells.specs.Ascending.{ascending_of}
+use Rattle.ma_cells.specs.Cells.{CellMark}
 use Rattle.ma_cells.specs.Grid.{are_on_grid, marks_are_on_grid}
 use Rattle.ma_cells.specs.Incidence.{is_on}
 use Rattle.ma_cells.specs.Meshes.{MarkedMesh}
-use Rattle.ma_cells.specs.Tetrahedron.{Tetrahedron}
+use Rattle.ma_cells.specs.Tetrahedron.{tet_cmp}
 use Rattle.ma_cells.specs.declared.batch.Batch.{Batch}
-use Rattle.ma_cells.specs.declared.view.View.{View}
-use Rattle.ma_cells.proofs.Passing.{all_pass}
+use Rattle.ma_cells.proofs.Ascents.{length-ascending_of}
+use Rattle.ma_cells.proofs.CellOrders.{tet_cmp_total}
 use Rattle.directory.specs.Posting.{most_told}
 use Rattle.mesh_check.specs.Accepted.{most_accepted_tets}
-use Rattle.one_mesh.specs.Adaptation.{adapted}
 use Rattle.one_mesh.specs.Holding.{set_of}
-use Rattle.part_core.specs.Parts.{PartState}
 use Rattle.part_phases.specs.Inboxes.{below}
-use Rattle.std.proofs.lemmas.Option.{none-some, same_Some}
-use Rattle.part_store.specs.Labelled.{view_of}
-use Rattle.part_store.specs.Stores.{view_in}
+use Rattle.part_store.specs.Labelled.{tet_of}
+use Rattle.refined_views.specs.Refined.{without_labels}
 use Rattle.size_marks.specs.Field.{Field}
-use Rattle.world_run.specs.Drawn.{SeeMesh, letter_count}
-use Rattle.world_run.specs.Told.{WorldState}
-use Rattle.world_run.specs.Union.{union_in}
-use Rattle.world_run.proofs.Labelling.{is_labelled}
-use Rattle.world_run.proofs.Together.{parts_make_mesh}
 use Rattle.meshadapt.specs.declared.fetching.Accepted.{Accepted}
 use Rattle.meshadapt.specs.declared.fetching.Handout.{Handout as FetchedHandout}
 use Rattle.meshadapt.specs.declared.words.Division.{Division as DivisionWords}
 use Rattle.meshadapt.specs.declared.words.Job.{Job as Words}
-use Rattle.meshadapt.specs.Acts.{Ending, ending_by, meant_ending, whole}
-use Rattle.meshadapt.specs.Printed.{parts_done_line}
-use Rattle.meshadapt.specs.Verdict.{Handout, Inputs, plan_of}
-use Rattle.meshadapt.specs.Words.{Job}
+use Rattle.meshadapt.specs.Acts.{whole}
+use Rattle.meshadapt.specs.Verdict.{Handout}
 use Rattle.meshadapt.specs.steps.Asking.{IfDivided, IsInRange, asked, division_asked}
 use Rattle.meshadapt.specs.steps.Fetching.{AreLabels, HandoutFits, IsRunnable, handout_of, inputs_over}
+use Rattle.meshadapt.specs.steps.OverRounds.{MayRun}
+use Rattle.world_run.proofs.Labelling.{labelled_mesh_is_mesh, no_more}
 
 all_kept : {X : Type 0} (test : X → Bool) (xs : List X) → list_all test xs ≡ true → filter test xs ≡ xs
 all_kept test [] h = refl
@@ -47,20 +41,22 @@ all_kept test (x ∷ xs) h =
     ap (λ (b : Bool). cond b (x ∷ filter test xs) (filter test xs)) both.0 ∙ ap (λ ys. x ∷ ys) (all_kept test xs both.1)
 
 -- ---- the division of the words
-pub record IsDivided (rounds tets : ℕ) (fetched : FetchedHandout) : Type 0 where
+pub record IsDivided (collapses swaps tets : ℕ) (fetched : FetchedHandout) : Type 0 where
   pub some : 1 ≤ fetched.parts
   pub most : fetched.parts ≤ 64
-  pub alone : rounds ≡ 0
+  pub no_collapses : collapses ≡ 0
+  pub no_swaps : swaps ≡ 0
   pub labels : AreLabels fetched.parts tets fetched.labels.items
 
-divided : (rounds : ℕ) (division : Option DivisionWords) (tets : ℕ) (fetched : FetchedHandout) → IfDivided rounds division → HandoutFits division tets (Some fetched) → IsDivided rounds tets fetched
-divided rounds None tets fetched over fits = absurd fits
-divided rounds (Some division) tets fetched over fits =
+divided : (collapses swaps : ℕ) (division : Option DivisionWords) (tets : ℕ) (fetched : FetchedHandout) → IfDivided collapses swaps division → HandoutFits division tets (Some fetched) → IsDivided collapses swaps tets fetched
+divided collapses swaps None tets fetched over fits = absurd fits
+divided collapses swaps (Some division) tets fetched over fits =
     let same : division.parts ≡ fetched.parts = sym fits.parts in
     record {
       some = subst (λ (n : ℕ). 1 ≤ n) same over.parts.least;
       most = subst (λ (n : ℕ). n ≤ 64) same over.parts.most;
-      alone = over.first;
+      no_collapses = over.no_collapses;
+      no_swaps = over.no_swaps;
       labels = fits.labels;
     }
 
@@ -92,7 +88,7 @@ module _ {X Y : Type 0} (f : X → Y) (g : ℕ → Y) (xs : List X) (sees : (n :
       ap (map f) (first_and_next xs n at.0 at.1)
       ∙ (map-append f (take n xs) (at.0 ∷ []) ∙ (ap₂ (λ ys y. ys ++ y ∷ []) (firsts_seen n (omega arith)) at.2 ∙ sym (map-append g (below n) (n ∷ []))))
 
-  all_seen : map f xs ≡ map g (below (length xs))
+  pub all_seen : map f xs ≡ map g (below (length xs))
   all_seen = ap (map f) (sym (take-length xs)) ∙ firsts_seen (length xs) (omega arith)
 
 -- ---- a mesh that was fetched
@@ -117,11 +113,8 @@ module _ (words : Words) (accepted : Accepted) (fetched : FetchedHandout) (right
   abbrev handout : Handout
   handout = handout_of mesh fetched
 
-  over : IsDivided words.rounds (length mesh.tets) fetched
-  over = divided words.rounds words.division (length mesh.tets) fetched right.division fits
-
-  pub runs_none : words.rounds ≡ 0
-  runs_none = over.alone
+  over : IsDivided words.collapses words.swaps (length mesh.tets) fetched
+  over = divided words.collapses words.swaps words.division (length mesh.tets) fetched right.division fits
 
   pub can_start : CanStart mesh handout.labels handout.parts accepted.grid
   can_start = record {
@@ -135,29 +128,28 @@ module _ (words : Words) (accepted : Accepted) (fetched : FetchedHandout) (right
     few = less_told (length mesh.tets) runs.few;
   }
 
-  -- ---- its end
-  module _ (field : Field) (world : WorldState) (parts : length world.parts ≡ handout.parts) (letters : world.letters ≡ letter_count handout.parts) (see : SeeMesh (whole handout) world.parts) where
-    abbrev inputs : Inputs
-    inputs = inputs_over accepted field fetched
+  -- what is handed out is the mesh
+  mesh_is : without_labels (whole handout) ≡ set_of mesh
+  mesh_is =
+      let batch : List CellMark → Batch = λ marks. record { tets = ascending_of tet_cmp mesh.tets; marks = marks } in
+      labelled_mesh_is_mesh mesh handout.labels over.labels.each ∙ ap batch (all_kept (λ mark. is_on mesh.tets mark.cell) mesh.marks runs.on_cells)
 
-    abbrev job : Job
-    job = asked words
+  as_many : length (whole handout).tets ≡ length (set_of mesh).tets
+  as_many =
+      let once = runs.once in
+      let most = no_more mesh handout.labels in
+      let least = (length-ascending_of tet_cmp_total (map tet_of (whole handout).tets)).0 in
+      let bare = length-map (whole handout).tets tet_of in
+      let same : length (without_labels (whole handout)).tets ≡ length (set_of mesh).tets = ap (λ (batch : Batch). length batch.tets) mesh_is in
+      omega (arith, once, most, least, bare, same)
 
-    mesh_is : union_in world.parts ≡ set_of mesh
-    mesh_is =
-        let labelled = is_labelled mesh handout.labels (length world.parts) over.labels.each (subst (λ (n : ℕ). All (λ label. label < n) handout.labels) (sym parts) over.labels.below) runs.rise (all_pass (λ mark. is_cell mark.cell) mesh.marks runs.cells) in
-        let made = parts_make_mesh mesh handout.labels world.parts over.labels.each labelled see in
-        let batch : List Tetrahedron → List CellMark → Batch = λ tets marks. record { tets = tets; marks = marks } in
-        ap₂ batch made.0 (made.1 ∙ all_kept (λ mark. is_on mesh.tets mark.cell) mesh.marks runs.on_cells)
-
-    final_is : set_of mesh ≡ adapted (plan_of job inputs) job.rounds inputs.mesh
-    final_is = sym (ap (λ (n : ℕ). adapted (plan_of job inputs) n inputs.mesh) over.alone)
-
-    views_are : map (λ (part : PartState). view_in part.standing.holds) world.parts ≡ map (view_of (whole handout)) (below handout.parts)
-    views_are = all_seen (λ (part : PartState). view_in part.standing.holds) (view_of (whole handout)) world.parts see ∙ ap (λ (n : ℕ). map (view_of (whole handout)) (below n)) parts
-
-    pub is_meant : ending_by world ≡ meant_ending job inputs (Some handout)
-    is_meant =
-        let made : Batch → List View → List ℕ → Ending = λ mesh views line. record { mesh = mesh; views = views; line = line } in
-        ap₂ (λ (m : Batch) (views : List View). made m views (parts_done_line (length world.parts) world.letters)) (mesh_is ∙ final_is) views_are
-        ∙ ap₂ (λ (n letters : ℕ). made (adapted (plan_of job inputs) job.rounds inputs.mesh) (map (view_of (whole handout)) (below handout.parts)) (parts_done_line n letters)) parts letters
+  pub may_run : (field : Field) → words.rounds ≤ accepted.grid → MayRun (asked words) (inputs_over accepted field fetched) handout
+  may_run field finer = record {
+    no_collapses = over.no_collapses;
+    no_swaps = over.no_swaps;
+    finer = finer;
+    sound = runs.sound;
+    mesh_is = mesh_is;
+    as_many = as_many;
+    few = let most = no_more mesh handout.labels in let few = runs.few in omega (arith, most, few);
+  }

@@ -1,11 +1,12 @@
 -- The mesh of an accepted job is sound and on its grid, and its rounds keep its geometry; so does the mesh whose text a run that is done has stored.
-use Rattle.std.proofs.Common.{◌≡◌, ℕ, ◌+◌, ◌-◌, ◌≤◌, Bool, true, false, cond, List, length, Some, None, refl, sym, ap, ◌∙◌, subst, arith}
+use Rattle.std.proofs.Common.{◌≡◌, ℕ, ◌+◌, ◌-◌, ◌≤◌, true, false, cond, List, length, Some, None, refl, sym, ap, subst, arith}
 use Rattle.std.specs.Prelude.{IfSome, Option, Result, Ok, Err, nat_le}
 use Rattle.std.specs.FinMap.{get}
 use Rattle.std.specs.List.{list_all}
 use Rattle.std.proofs.lemmas.Bool.Decides.{nat_tests}
+use Rattle.carrier.specs.Carried.{Carried}
 use Rattle.ma_cells.specs.Meshes.{MarkedMesh}
-use Rattle.ma_cells.specs.Tetrahedron.{Tetrahedron, are_corners, tet_cmp}
+use Rattle.ma_cells.specs.Tetrahedron.{Tetrahedron, tet_cmp}
 use Rattle.ma_cells.specs.Ascending.{ascending_of}
 use Rattle.ma_cells.specs.declared.batch.Batch.{Batch}
 use Rattle.ma_io.specs.Files.{Files}
@@ -16,40 +17,28 @@ use Rattle.msh_read.specs.Raw.{Raw}
 use Rattle.ma_cells.specs.Grid.{are_on_grid, grid_of, is_on_grid, marks_are_on_grid, mesh_is_on_grid}
 use Rattle.mesh_check.proofs.GreatestGrid.{grid_is_greatest}
 use Rattle.one_mesh.specs.Holding.{set_of}
-use Rattle.ma_cover.proofs.SoundOrder.{sound_in_any_order}
-use Rattle.ma_cells.proofs.Permutations.{listed_once-permutes}
-use Rattle.ma_cells.proofs.Passing.{all_pass, test_all}
 use Rattle.mesh_laws.specs.Adapted.{IsSoundMesh}
 use Rattle.one_mesh.proofs.Rounds.{rounds_adapt, rounds_halve_the_grid}
 use Rattle.one_mesh.specs.Adaptation.{Plan}
 use Rattle.mesh_check.proofs.Numbered.{then_ok}
-use Rattle.carrier.specs.Schedule.{Picks}
-use Rattle.mesh_check.specs.Accepted.{most_accepted_tets}
-use Rattle.std.proofs.lemmas.Option.{none-some, same_Some}
-use Rattle.world_run.proofs.Labelling.{no_more}
-use Rattle.meshadapt.specs.Acts.{Ending, Output, final, whole}
-use Rattle.meshadapt.specs.declared.status.FileKind.TheVariants.{ScheduleFile}
+use Rattle.meshadapt.specs.Acts.{Ending, Output, adapted_by}
 use Rattle.meshadapt.specs.Geometry.{GeometryIsKept, KeepsGeometry, RoundsKeepGeometry, StoresKept}
 use Rattle.meshadapt.specs.Outcome.{Leaves, LettersArrive, MayEnd, Seen, Stores}
-use Rattle.meshadapt.specs.Verdict.{AcceptedMesh, Handout, Inputs, accepted_in, accepted_in_file, accepted_with, bytes_in, field_in, handout_for, inputs_with, labels_for, or_unaccepted, plan_of, raw_in_file, schedule_in, verdict, within_grid}
-use Rattle.meshadapt.specs.Words.{Division, Job}
+use Rattle.meshadapt.specs.Verdict.{AcceptedMesh, Handout, Inputs, accepted_in, accepted_in_file, accepted_with, field_in, handout_for, inputs_with, labels_for, or_unaccepted, plan_of, raw_in_file, verdict, within_grid}
+use Rattle.meshadapt.specs.Words.{Job}
 use Rattle.meshadapt.proofs.Acting.{all-outputs, all_outputs}
-use Rattle.meshadapt.proofs.FetchedFiles.{accepted_is_runnable}
+use Rattle.meshadapt.proofs.SetMesh.{in_set, set_is_sound}
 use Rattle.meshadapt.specs.declared.status.Refusal.TheVariants.{Rounds}
 use Rattle.meshadapt.specs.declared.status.Status.{Status}
 use Rattle.meshadapt.specs.declared.status.Status.TheVariants.{Done, Usage, ReadFault, WriteFault, Refused, TooMany, Memory, LinkFault, BadLetter, Starved}
 use Rattle.mesh_check.specs.Laws.{IsFair}
 use Rattle.mesh_check.proofs.Fair.{accepted_is_fair}
-use Rattle.ma_cells.proofs.SetItems.{all-ascending_of}
 
 -- it is sound, and all places are on the grid
 abbrev IsFine : AcceptedMesh → Type 0
 IsFine accepted = IsSoundMesh (set_of accepted.mesh) × (mesh_is_on_grid accepted.grid (set_of accepted.mesh) ≡ true)
 
 -- ---- the mesh of a file
-in_set : (test : Tetrahedron → Bool) (tets : List Tetrahedron) → list_all test tets ≡ true → list_all test (ascending_of tet_cmp tets) ≡ true
-in_set test tets h = test_all test (ascending_of tet_cmp tets) (all-ascending_of tet_cmp (λ (t : Tetrahedron). test t ≡ true) tets (all_pass test tets h))
-
 on_grid : (k : ℕ) (mesh : MarkedMesh) → IsFair mesh → are_on_grid k mesh.tets ≡ true → mesh_is_on_grid k (set_of mesh) ≡ true
 on_grid k mesh fair on =
     let tets : are_on_grid k (ascending_of tet_cmp mesh.tets) ≡ true = in_set (λ t. list_all (is_on_grid k) t.corners) mesh.tets on in
@@ -62,11 +51,7 @@ on_its_grid tets = (grid_is_greatest tets).passes
 
 set_is_fine : (names : List GroupName) (mesh : MarkedMesh) → IsFair mesh → IsFine (accepted_with names mesh)
 set_is_fine names mesh fair = (
-  record {
-    tetrahedra = in_set (λ tet. are_corners tet.corners) mesh.tets fair.not_flat;
-    cells = fair.cells;
-    sound = sound_in_any_order mesh.tets (ascending_of tet_cmp mesh.tets) mesh.marks (listed_once-permutes mesh.tets fair.listed) fair.sound;
-  },
+  set_is_sound mesh fair,
   on_grid (grid_of mesh.tets) mesh fair (on_its_grid mesh.tets),
 )
 
@@ -107,40 +92,6 @@ found_fine files job inputs e =
     let fine = raw_fine raw.0 accepted raw.2 in
     subst (IsReady job.rounds) within.0 (fine.0, fine.1, within.1)
 
--- ---- how many tetrahedra are handed out
-few_accepted : (names : List GroupName) (read : Result MarkedMesh MeshFault) (accepted : AcceptedMesh) → ((mesh : MarkedMesh) → read ≡ Ok mesh → length mesh.tets ≤ most_accepted_tets) → or_unaccepted names read ≡ Ok accepted → length accepted.mesh.tets ≤ most_accepted_tets
-few_accepted names (Ok mesh) accepted few e = subst (λ (a : AcceptedMesh). length a.mesh.tets ≤ most_accepted_tets) (ok_is e) (few mesh refl)
-few_accepted names (Err fault) accepted few e = absurd cc
-
-few_taken : (raw : Raw) (accepted : AcceptedMesh) → accepted_in raw ≡ Ok accepted → length accepted.mesh.tets ≤ most_accepted_tets
-few_taken raw accepted e = few_accepted raw.names (accepted_of raw 0) accepted (λ mesh is. (accepted_is_runnable raw mesh is).few) e
-
-handed_mesh : (mesh : MarkedMesh) (division : Option Division) (labels : Option (List ℕ)) (files : Files) (handout : Handout) → handout_for mesh division labels files ≡ Ok (Some handout) → mesh ≡ handout.mesh
-handed_mesh mesh None labels files handout e = absurd (none-some handout (ok_is e))
-handed_mesh mesh (Some division) None files handout e = absurd (none-some handout (ok_is e))
-handed_mesh mesh (Some division) (Some labels) files handout e =
-    let made : Picks → Handout = λ schedule. record { mesh = mesh; parts = division.parts; labels = labels; schedule = schedule } in
-    let bytes = then_ok (bytes_in ScheduleFile (get files division.schedule)) _ (Some handout) e in
-    let schedule = then_ok (schedule_in bytes.0) (λ schedule. Ok (Some (made schedule))) (Some handout) bytes.2 in
-    ap (λ (h : Handout). h.mesh) (same_Some (made schedule.0) handout (ok_is schedule.2))
-
-pub few_handed : (files : Files) (job : Job) (inputs : Inputs) (handout : Handout) → verdict files job ≡ Ok inputs → inputs.handout ≡ Some handout → length (whole handout).tets ≤ most_accepted_tets
-few_handed files job inputs handout e handed =
-    let found = then_ok (accepted_in_file (get files job.mesh)) _ inputs e in
-    let accepted : AcceptedMesh = found.0 in
-    let raw = then_ok (raw_in_file (get files job.mesh)) accepted_in accepted found.1 in
-    let labels = then_ok (labels_for job.division (length accepted.mesh.tets) files) _ inputs found.2 in
-    let field = then_ok (field_in job.sizes files) _ inputs labels.2 in
-    let found_handout = then_ok (handout_for accepted.mesh job.division labels.0 files) (λ handout. within_grid job.rounds (inputs_with accepted field.0 handout)) inputs field.2 in
-    let within = within_is job.rounds (inputs_with accepted field.0 found_handout.0) inputs found_handout.2 in
-    let is : found_handout.0 ≡ Some handout = ap (λ (i : Inputs). i.handout) within.0 ∙ handed in
-    let same = handed_mesh accepted.mesh job.division labels.0 files handout (found_handout.1 ∙ ap Ok is) in
-    let few = subst (λ (m : MarkedMesh). length m.tets ≤ most_accepted_tets) same (few_taken raw.0 accepted raw.2) in
-    at_most (length (whole handout).tets) (length handout.mesh.tets) (no_more handout.mesh handout.labels) few
-  where
-    at_most : (m n : ℕ) → m ≤ n → n ≤ most_accepted_tets → m ≤ most_accepted_tets
-    at_most m n h k = omega arith
-
 pub rounds_keep_geometry : RoundsKeepGeometry
 rounds_keep_geometry files job inputs round e few =
     let mesh : Batch = inputs.mesh in
@@ -155,23 +106,23 @@ rounds_keep_geometry files job inputs round e few =
 
 -- ---- a run
 -- where all letters arrive, a run ends with the mesh after its rounds
-ends_in_final : (job : Job) (inputs : Inputs) (handout : Option Handout) (s t : Seen) (ending : Ending) → MayEnd job inputs handout s.carrier t.carrier ending → LettersArrive s handout → ending.mesh ≡ final job inputs
-ends_in_final job inputs None s t ending ends arrive = ap (λ (e : Ending). e.mesh) ends
-ends_in_final job inputs (Some handout) s t ending ends arrive = ap (λ (e : Ending). e.mesh) (ends.4 arrive)
+ends_adapted : (job : Job) (inputs : Inputs) (handout : Option Handout) (s t : Carried) (ending : Ending) → MayEnd job inputs handout job.rounds s t ending → LettersArrive s handout → ending.meshes job.rounds ≡ adapted_by job inputs job.rounds
+ends_adapted job inputs None s t ending ends arrive = ap (λ (e : Ending). e.meshes job.rounds) ends
+ends_adapted job inputs (Some handout) s t ending ends arrive = (ends.4 arrive).meshes job.rounds (omega arith)
 
-module _ (words : Option Job) (s t : Seen) (job : Job) (inputs : Inputs) (ending : Ending) (words_are : words ≡ Some job) (ends : MayEnd job inputs inputs.handout s.carrier t.carrier ending) where
+module _ (words : Option Job) (s t : Seen) (job : Job) (inputs : Inputs) (ending : Ending) (words_are : words ≡ Some job) (ends : MayEnd job inputs inputs.handout job.rounds s.carrier t.carrier ending) where
   stored_kept : (before : Option Files) → IfSome before (λ files. verdict files job ≡ Ok inputs) → Stores (all_outputs job inputs ending) before t.depot.files → IfSome before (λ files. StoresKept words files s t)
   stored_kept None verdict_is stored = tt
   stored_kept (Some files) verdict_is stored = record {
     job = job;
     inputs = inputs;
-    new = ending.mesh;
+    new = ending.meshes job.rounds;
     words_are = words_are;
     verdict_is = verdict_is;
     views = ending.views;
     stored = stored;
     kept = λ arrive.
-        let is : ending.mesh ≡ final job inputs = ends_in_final job inputs inputs.handout s t ending ends arrive in
+        let is : ending.meshes job.rounds ≡ adapted_by job inputs job.rounds = ends_adapted job inputs inputs.handout s.carrier t.carrier ending ends arrive in
         subst (λ (mesh : Batch). KeepsGeometry inputs job.rounds mesh) (sym is) (rounds_keep_geometry files job inputs job.rounds verdict_is (itself job.rounds));
   }
     where

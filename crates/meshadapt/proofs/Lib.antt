@@ -1,6 +1,7 @@
 pub mod Numbers
 pub mod Pieces
 pub mod Ranges
+pub mod SetMesh
 pub mod FetchedFiles
 pub mod Fetchings
 pub mod Handouts
@@ -11,6 +12,9 @@ pub mod OneByOne
 pub mod Ending
 pub mod Halted
 pub mod HandedOut
+pub mod Meant
+pub mod PartRounds
+pub mod RoundLines
 pub mod Divided
 pub mod Begun
 pub mod Kept

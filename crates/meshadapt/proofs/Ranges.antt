@@ -18,19 +18,19 @@ pub plain_in_range : (sizes : Sizes) (found : Option Job) → HasSize sizes → 
 plain_in_range sizes None has sized alone few = tt
 plain_in_range sizes (Some job) has sized alone few = record {
   sizes = subst HasSize (sym sized) has;
-  division = subst (IfDivided job.rounds) (sym alone) tt;
+  division = subst (IfDivided job.collapses job.swaps) (sym alone) tt;
   collapses = few.0;
   swaps = few.1;
 }
 
 pub divided_in_range : (sizes : Sizes) (division : Division) (found : Option Job) → HasSize sizes → HasParts division → IfSome found (λ job. job.sizes ≡ sizes) → IfSome found (λ job. job.division ≡ Some division)
-    → IfSome found (λ job. job.rounds ≤ 0) → IfSome found (λ job. (job.collapses ≤ 0) × (job.swaps ≤ 0)) → IfSome found (λ job. IsInRange job)
-divided_in_range sizes division None has parts sized divided first few = tt
-divided_in_range sizes division (Some job) has parts sized divided first few =
-    let over : RunsOverParts job.rounds division = record { parts = parts; first = none_is job.rounds first } in
+    → IfSome found (λ job. (job.collapses ≤ 0) × (job.swaps ≤ 0)) → IfSome found (λ job. IsInRange job)
+divided_in_range sizes division None has parts sized divided few = tt
+divided_in_range sizes division (Some job) has parts sized divided few =
+    let over : RunsOverParts job.collapses job.swaps division = record { parts = parts; no_collapses = none_is job.collapses few.0; no_swaps = none_is job.swaps few.1 } in
     record {
       sizes = subst HasSize (sym sized) has;
-      division = subst (IfDivided job.rounds) (sym divided) over;
+      division = subst (IfDivided job.collapses job.swaps) (sym divided) over;
       collapses = few_enough job.collapses few.0;
       swaps = few_enough job.swaps few.1;
     }

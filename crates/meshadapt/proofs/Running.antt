@@ -8,12 +8,12 @@ use Rattle.one_mesh.specs.Adaptation.{IsFirstPast, IsFirstStagePast, Plan, Round
 use Rattle.one_mesh.specs.Holding.{Holding}
 use Rattle.meshadapt.specs.declared.halt.Halt.{Halt}
 use Rattle.meshadapt.specs.declared.halt.Halt.TheVariants as halt
-use Rattle.meshadapt.specs.Acts.{begun, bytes_of, round_acts}
+use Rattle.meshadapt.specs.Acts.{adapted_by, begun, bytes_of, round_acts}
 use Rattle.meshadapt.specs.Outcome.{Puts, PutsFront}
 use Rattle.meshadapt.specs.Printed.{mesh_line, round_line}
 use Rattle.meshadapt.specs.Verdict.{Inputs, plan_of}
 use Rattle.meshadapt.specs.Words.{Job}
-use Rattle.meshadapt.specs.steps.Running.{Begins, HaltsBegun, HaltsRounds, PutsLine, RanRounds, RunsRound, RunsRounds}
+use Rattle.meshadapt.specs.steps.Running.{Begins, HaltsBegun, HaltsRounds, PutsLine, RanRounds, RunsRound, RunsRounds, by_plan}
 use Rattle.meshadapt.proofs.Acting.{among_begun, among_first, bytes_of-line, next_round, rounds_store_nothing}
 use Rattle.meshadapt.proofs.InTurn.{front_after, front_then, puts_then}
 
@@ -38,10 +38,10 @@ module _ (plan : Plan) (mesh : Batch) where
   abbrev pub Round : ℕ → Batch → Holding → Received → Received → Type 0
   Round n b new m t = (new ≡ record { mesh = staged plan (last_stage plan) b; spent = false }) × RoundStaysWithin plan b × Puts (round_line n (staged plan (last_stage plan) b)) m t
 
-  more_put : (done : ℕ) (s m t : Received) → Puts (bytes_of (round_acts plan done mesh)) s m → Puts (round_line (suc done) (adapted plan (suc done) mesh)) m t → Puts (bytes_of (round_acts plan (suc done) mesh)) s t
+  more_put : (done : ℕ) (s m t : Received) → Puts (bytes_of (round_acts (by_plan plan mesh) done)) s m → Puts (round_line (suc done) (adapted plan (suc done) mesh)) m t → Puts (bytes_of (round_acts (by_plan plan mesh) (suc done))) s t
   more_put done s m t h k =
       let line : List ℕ = round_line (suc done) (adapted plan (suc done) mesh) in
-      subst (λ (bytes : List ℕ). Puts bytes s t) (sym (bytes_of-line (round_acts plan done mesh) line)) (puts_then (bytes_of (round_acts plan done mesh)) line s m t h k)
+      subst (λ (bytes : List ℕ). Puts bytes s t) (sym (bytes_of-line (round_acts (by_plan plan mesh) done) line)) (puts_then (bytes_of (round_acts (by_plan plan mesh) done)) line s m t h k)
 
   pub one_more : (done : ℕ) (held new : Holding) (s m t : Received) → RanRounds plan done mesh held s m → Round (done + 1) held.mesh new m t → RanRounds plan (done + 1) mesh new s t
   one_more done held new s m t before ran =
@@ -52,7 +52,7 @@ module _ (plan : Plan) (mesh : Batch) where
       subst (λ (n : ℕ). RanRounds plan n mesh new s t) (sym (add-one done)) (ran'.0, within', more_put done s m t before.2 ran'.2)
 
   past : (done rounds : ℕ) (held : Holding) (s m t : Received) (round stage count : ℕ) → done < rounds → RanRounds plan done mesh held s m → round ≡ done + 1
-      → IsFirstStagePast plan held.mesh stage count → t ≡ m → IsFirstPast plan rounds mesh round stage count × Puts (bytes_of (round_acts plan (round - 1) mesh)) s t
+      → IsFirstStagePast plan held.mesh stage count → t ≡ m → IsFirstPast plan rounds mesh round stage count × Puts (bytes_of (round_acts (by_plan plan mesh) (round - 1))) s t
   past done rounds held s m t round stage count more before round_is first same =
       let first' : IsFirstStagePast plan (adapted plan done mesh) stage count = subst (λ (b : Batch). IsFirstStagePast plan b stage count) (held_is done held before.0) first in
       let e : done ≡ round - 1 = omega arith in (
@@ -62,7 +62,7 @@ module _ (plan : Plan) (mesh : Batch) where
           in_round = subst (λ (n : ℕ). IsFirstStagePast plan (adapted plan n mesh) stage count) e first';
           before = subst (λ (n : ℕ). StaysWithin plan n mesh) e before.1;
         },
-        subst (λ (n : ℕ). Puts (bytes_of (round_acts plan n mesh)) s t) e (subst (λ (r : Received). Puts (bytes_of (round_acts plan done mesh)) s r) (sym same) before.2),
+        subst (λ (n : ℕ). Puts (bytes_of (round_acts (by_plan plan mesh) n)) s t) e (subst (λ (r : Received). Puts (bytes_of (round_acts (by_plan plan mesh) done)) s r) (sym same) before.2),
       )
 
   unput : (done rounds : ℕ) (held : Holding) (s m t : Received) → done < rounds → RanRounds plan done mesh held s m
@@ -76,7 +76,7 @@ module _ (plan : Plan) (mesh : Batch) where
         done = done;
         more = omega arith;
         within = one_within done before.1 at.0;
-        front = front_after (bytes_of (round_acts plan done mesh)) (round_line (done + 1) (adapted plan (done + 1) mesh)) s m t before.2 line;
+        front = front_after (bytes_of (round_acts (by_plan plan mesh) done)) (round_line (done + 1) (adapted plan (done + 1) mesh)) s m t before.2 line;
       }
 
   -- what stops the next round stops the rounds
@@ -117,7 +117,7 @@ module _ (job : Job) (inputs : Inputs) where
   first_halts X Y new s t halt.Unput h = record {
     done = [];
     line = mesh_line inputs.mesh inputs.loose;
-    rest = round_acts (plan_of job inputs) job.rounds inputs.mesh;
+    rest = round_acts (adapted_by job inputs) job.rounds;
     acts_are = refl;
     within = among_first job inputs (mesh_line inputs.mesh inputs.loose);
     none_stored = refl;
@@ -127,21 +127,20 @@ module _ (job : Job) (inputs : Inputs) where
   first_halts X Y new s t halt.Memory h = tt
 
   pub begun_all : (new : Holding) (s m t : Received) → Puts (mesh_line inputs.mesh inputs.loose) s m → RanRounds (plan_of job inputs) job.rounds inputs.mesh new m t → Begins {X = Unit {0}} (Ok tt) job inputs new s t
-  begun_all new s m t h k = (k.0, k.1, puts_then (mesh_line inputs.mesh inputs.loose) (bytes_of (round_acts (plan_of job inputs) job.rounds inputs.mesh)) s m t h k.2)
+  begun_all new s m t h k = (k.0, k.1, puts_then (mesh_line inputs.mesh inputs.loose) (bytes_of (round_acts (adapted_by job inputs) job.rounds)) s m t h k.2)
 
   begun_unput : (s m t : Received) → Puts (mesh_line inputs.mesh inputs.loose) s m → HaltsRounds (plan_of job inputs) job.rounds inputs.mesh m t → HaltsBegun job inputs s t
   begun_unput s m t h k =
-      let plan : Plan = plan_of job inputs in
-      let line : List ℕ = round_line (k.done + 1) (adapted plan (k.done + 1) inputs.mesh) in
-      let next = next_round job inputs k.done k.more in
+      let line : List ℕ = round_line (k.done + 1) (adapted_by job inputs (k.done + 1)) in
+      let next = next_round job inputs (adapted_by job inputs) k.done k.more in
       record {
-        done = begun k.done job inputs;
+        done = begun k.done inputs (adapted_by job inputs);
         line = line;
         rest = next.0;
         acts_are = next.1;
-        within = among_begun job inputs k.done line k.within;
-        none_stored = rounds_store_nothing plan k.done inputs.mesh;
-        front = front_then (mesh_line inputs.mesh inputs.loose) (bytes_of (round_acts plan k.done inputs.mesh)) line s m t h k.front;
+        within = among_begun job inputs (adapted_by job inputs) k.done line k.within;
+        none_stored = rounds_store_nothing (adapted_by job inputs) k.done;
+        front = front_then (mesh_line inputs.mesh inputs.loose) (bytes_of (round_acts (adapted_by job inputs) k.done)) line s m t h k.front;
       }
 
   pub begun_halts : (X Y : Type 0) (held new : Holding) (s m t : Received) (why : Halt) → Puts (mesh_line inputs.mesh inputs.loose) s m
@@ -149,7 +148,7 @@ module _ (job : Job) (inputs : Inputs) where
   begun_halts X Y held new s m t (halt.Unread file) h k = k
   begun_halts X Y held new s m t (halt.Refused refusal) h k = k
   begun_halts X Y held new s m t (halt.TooMany round stage count) h k =
-      (k.0, puts_then (mesh_line inputs.mesh inputs.loose) (bytes_of (round_acts (plan_of job inputs) (round - 1) inputs.mesh)) s m t h k.1)
+      (k.0, puts_then (mesh_line inputs.mesh inputs.loose) (bytes_of (round_acts (adapted_by job inputs) (round - 1))) s m t h k.1)
   begun_halts X Y held new s m t (halt.Unstored name) h k = k
   begun_halts X Y held new s m t halt.Unput h k = begun_unput s m t h k
   begun_halts X Y held new s m t (halt.Parts fault) h k = k

@@ -1,24 +1,19 @@
 -- When each status comes, from what each leaves.
-use Rattle.std.proofs.Common.{◌≡◌, ℕ, ◌-◌, ◌<◌, ◌≤◌, List, Option, Some, None, length, inl, inr, refl, sym, subst, ap, ◌∙◌, arith}
+use Rattle.std.proofs.Common.{◌≡◌, ℕ, ◌-◌, ◌≤◌, List, Option, Some, None, length, inl, inr, refl, sym, subst, ap, ◌∙◌, arith}
 use Rattle.std.specs.Prelude.{◌⊎◌, Result, Ok, Err, IfSome}
 use Rattle.std.proofs.lemmas.Bool.{cases_lt}
 use Rattle.ma_cells.specs.declared.batch.Batch.{Batch}
 use Rattle.ma_io.specs.Files.{Files}
-use Rattle.mesh_check.specs.Accepted.{most_accepted_tets}
-use Rattle.meshadapt.specs.Acts.{whole}
 use Rattle.one_mesh.specs.Adaptation.{IsFirstPast, IsFirstStagePast, Plan, StaysWithin, adapted, staged}
-use Rattle.ma_io.specs.Count.{Rose}
 use Rattle.world_run.specs.declared.fault.RunFault.{RunFault}
 use Rattle.world_run.specs.declared.fault.RunFault.TheVariants as run
-use Rattle.meshadapt.specs.Outcome.{AcceptedIsDone, AllArrive, IsQuiet, IsVerdict, Leaves, LeavesParts, LettersArrive, RefusalIsAnswered, Seen, TooManyIsAnswered, UsageIsAnswered}
-use Rattle.meshadapt.specs.Verdict.{Handout, Inputs, plan_of, verdict}
+use Rattle.meshadapt.specs.Outcome.{AcceptedIsDone, IsQuiet, IsVerdict, Leaves, LeavesParts, LettersArrive, MayFail, RefusalIsAnswered, Seen, TooManyIsAnswered, UsageIsAnswered}
+use Rattle.meshadapt.specs.Verdict.{Inputs, plan_of, verdict}
 use Rattle.meshadapt.specs.Words.{Job}
 use Rattle.meshadapt.specs.declared.status.Refusal.{Refusal}
 use Rattle.meshadapt.specs.declared.status.Status.{Status}
 use Rattle.meshadapt.specs.declared.status.Status.TheVariants.{Done, Usage, ReadFault, WriteFault, Refused, TooMany, Memory, LinkFault, BadLetter, Starved}
-use Rattle.meshadapt.proofs.Kept.{few_handed}
 use Rattle.std.proofs.lemmas.Option.{none-some, same_Some}
-use Rattle.part_rules.specs.Ends.{most_tets}
 
 ok_not_err : {A E : Type 0} (x : A) (e : E) → ◌≡◌ {A = Result A E} (Ok x) (Err e) → ⊥
 ok_not_err x e h = absurd cc
@@ -28,9 +23,6 @@ ok_is e = cc
 
 err_is : {A E : Type 0} {x y : E} → ◌≡◌ {A = Result A E} (Err x) (Err y) → x ≡ y
 err_is e = cc
-
-too_few : (n : ℕ) → most_tets < n → n ≤ most_accepted_tets → ⊥
-too_few n h k = absurd (omega arith)
 
 -- the verdict on the job of the words, where the files are told
 told : (s : Seen) (words : Option Job) (job other : Job) (files : Files) (v : Result Inputs Refusal) → words ≡ Some job → words ≡ Some other → s.depot.files ≡ Some files → IsVerdict s other v → (other ≡ job) × (verdict files job ≡ v)
@@ -98,93 +90,89 @@ module _ (words : Option Job) (s t : Seen) (job : Job) (files : Files) (is : wor
     same_run other found are v = let same = told s words job other files (Ok found) is are there v in (same.0, ok_is (sym same.1 ∙ due))
 
     -- all letters arrive
-    module _ (within : StaysWithin (plan_of job inputs) job.rounds inputs.mesh) (arrive : LettersArrive s inputs.handout) where
-      not_past : (other : Job) (found : Inputs) (round stage count : ℕ) → other ≡ job → found ≡ inputs → IsFirstPast (plan_of other found) other.rounds found.mesh round stage count → ⊥
-      not_past other found round stage count e f first =
-          let at : IsFirstPast (plan_of job inputs) job.rounds inputs.mesh round stage count
-          = subst (λ (i : Inputs). IsFirstPast (plan_of job i) job.rounds i.mesh round stage count) f (subst (λ (j : Job). IsFirstPast (plan_of j found) j.rounds found.mesh round stage count) e first) in
-          let few = within round stage at.least at.greatest at.in_round.stage_is in
-          let past = at.in_round.past in
-          let count_is = at.in_round.count_is in
-          absurd (omega (arith, few, past, count_is))
+    module _ (arrive : LettersArrive s.carrier inputs.handout) where
+      arrived : (found : Inputs) → found ≡ inputs → LettersArrive s.carrier found.handout
+      arrived found f = subst (LettersArrive s.carrier) (sym (ap (λ (i : Inputs). i.handout) f)) arrive
 
-      arrived : (found : Inputs) (handout : Handout) → found ≡ inputs → found.handout ≡ Some handout → AllArrive handout.parts s.carrier
-      arrived found handout f handed = subst (LettersArrive s) (sym (ap (λ (i : Inputs). i.handout) f) ∙ handed) arrive
-
-      no_parts_fault : (fault : RunFault) (line : List ℕ) → LeavesParts fault line words s t → (fault ≡ run.Memory) ⊎ Rose s.carrier.faults t.carrier.faults
-      no_parts_fault run.Link line h = inr h.cause
-      no_parts_fault (run.BadLetter bytes) line h =
+      -- what the parts may come to then
+      may_fail : (fault : RunFault) (line : List ℕ) (h : LeavesParts fault line words s t) → MayFail h.job h.inputs fault
+      may_fail fault line h =
           let same = same_run h.job h.inputs h.words_are h.verdict in
-          elim (arrived h.inputs h.handout same.1 h.handed) [ inl one ↦ absurd (h.comes.alone one) | inr all ↦ absurd (h.comes.drawn all.1.0 all.0 all.1.1) ]
-      no_parts_fault (run.Starved part phase) line h =
-          let same = same_run h.job h.inputs h.words_are h.verdict in
-          elim (arrived h.inputs h.handout same.1 h.handed) [ inl one ↦ absurd (h.comes.alone one) | inr all ↦ absurd (h.comes.drawn all.1.0 all.0 all.1.1) ]
-      no_parts_fault (run.Over round stage count) line h =
-          let same = same_run h.job h.inputs h.words_are h.verdict in
-          let few = few_handed files job inputs h.handout due (sym (ap (λ (i : Inputs). i.handout) same.1) ∙ h.handed) in
-          let none = too_few (length (whole h.handout).tets) in
-          elim (arrived h.inputs h.handout same.1 h.handed) [
-            | inl one ↦ absurd (none (h.comes.alone one).4 few)
-            | inr all ↦ absurd (none (h.comes.drawn all.1.0 all.0 all.1.1).3 few)
-          ]
-      no_parts_fault run.Memory line h = inl refl
-
-      not_parts : (fault : RunFault) (line : List ℕ) → (fault ≡ run.Memory → ⊥) → LeavesParts fault line words s t → ⊥
-      not_parts fault line other h = elim (no_parts_fault fault line h) [ inl memory ↦ other memory | inr rose ↦ quiet.2 rose ]
-
-      pub done : (status : Status) → Leaves status words s t → (status ≡ Done) ⊎ (status ≡ Memory)
-      done Done h = inl refl
-      done Usage h = absurd (none-some job (sym h.words_are ∙ is))
-      done ReadFault h = absurd (quiet.0 h.counted)
-      done WriteFault (inl h) = absurd (quiet.1 h.counted)
-      done WriteFault (inr h) = absurd (quiet.3 h.printed.0)
-      done (Refused r) h = absurd (not_refused h.job r h.words_are h.verdict)
-      done (TooMany round stage count) (inl h) = let same = same_run h.job h.inputs h.words_are h.verdict in absurd (not_past h.job h.inputs round stage count same.0 same.1 h.first)
-      done (TooMany round stage count) (inr h) = absurd (not_parts (run.Over round stage count) _ (λ e. absurd cc) h)
-      done Memory h = inr refl
-      done LinkFault h = absurd (not_parts run.Link _ (λ e. absurd cc) h)
-      done (BadLetter bytes) h = absurd (not_parts (run.BadLetter bytes) _ (λ e. absurd cc) h)
-      done (Starved part phase) h = absurd (not_parts (run.Starved part phase) _ (λ e. absurd cc) h)
-
-    -- there are too many tetrahedra
-    module _ (alone : inputs.handout ≡ None) (round stage count : ℕ) (first : IsFirstPast (plan_of job inputs) job.rounds inputs.mesh round stage count) where
-      not_handed : (found : Inputs) (handout : Handout) → found ≡ inputs → found.handout ≡ Some handout → ⊥
-      not_handed found handout f handed = none-some handout (sym alone ∙ (sym (ap (λ (i : Inputs). i.handout) f) ∙ handed))
-
-      no_parts : (fault : RunFault) (line : List ℕ) → LeavesParts fault line words s t → ⊥
-      no_parts fault line h = not_handed h.inputs h.handout (same_run h.job h.inputs h.words_are h.verdict).1 h.handed
-
-      not_within : StaysWithin (plan_of job inputs) job.rounds inputs.mesh → ⊥
-      not_within within =
-          let most = within round stage first.least first.greatest first.in_round.stage_is in
-          let past = first.in_round.past in
-          let count_is = first.in_round.count_is in
-          absurd (omega (arith, most, past, count_is))
-
-      within_so : (other : Job) (found : Inputs) → other ≡ job → found ≡ inputs → StaysWithin (plan_of other found) other.rounds found.mesh → StaysWithin (plan_of job inputs) job.rounds inputs.mesh
-      within_so other found e f within =
-          subst (λ (i : Inputs). StaysWithin (plan_of job i) job.rounds i.mesh) f (subst (λ (j : Job). StaysWithin (plan_of j found) j.rounds found.mesh) e within)
+          (h.meant (subst (LettersArrive s.carrier) h.handed (arrived h.inputs same.1))).0
 
       first_so : (other : Job) (found : Inputs) (r n c : ℕ) → other ≡ job → found ≡ inputs → IsFirstPast (plan_of other found) other.rounds found.mesh r n c → IsFirstPast (plan_of job inputs) job.rounds inputs.mesh r n c
       first_so other found r n c e f past =
           subst (λ (i : Inputs). IsFirstPast (plan_of job i) job.rounds i.mesh r n c) f (subst (λ (j : Job). IsFirstPast (plan_of j found) j.rounds found.mesh r n c) e past)
 
-      pub too_many : (status : Status) → Leaves status words s t → (status ≡ TooMany round stage count) ⊎ (status ≡ Memory)
-      too_many Done h = let same = same_run h.job h.inputs h.words_are h.verdict in absurd (not_within (within_so h.job h.inputs same.0 same.1 h.within))
-      too_many Usage h = absurd (none-some job (sym h.words_are ∙ is))
-      too_many ReadFault h = absurd (quiet.0 h.counted)
-      too_many WriteFault (inl h) = absurd (quiet.1 h.counted)
-      too_many WriteFault (inr h) = absurd (quiet.3 h.printed.0)
-      too_many (Refused r) h = absurd (not_refused h.job r h.words_are h.verdict)
-      too_many (TooMany r n c) (inl h) =
+      -- a fault is of the carrier or of memory, or there are too many tetrahedra
+      abbrev IsTold : RunFault → Type 0
+      IsTold run.Link = ⊥
+      IsTold (run.BadLetter bytes) = ⊥
+      IsTold (run.Starved part phase) = ⊥
+      IsTold (run.Over round stage count) = IsFirstPast (plan_of job inputs) job.rounds inputs.mesh round stage count
+      IsTold run.Memory = Unit {0}
+
+      is_told : (fault : RunFault) (line : List ℕ) → LeavesParts fault line words s t → IsTold fault
+      is_told run.Link line h = quiet.2 h.cause
+      is_told (run.BadLetter bytes) line h = may_fail (run.BadLetter bytes) line h
+      is_told (run.Starved part phase) line h = may_fail (run.Starved part phase) line h
+      is_told (run.Over round stage count) line h =
           let same = same_run h.job h.inputs h.words_are h.verdict in
-          let one = only_first (plan_of job inputs) inputs.mesh job.rounds r round n stage c count (first_so h.job h.inputs r n c same.0 same.1 h.first) first in
-          inl (rw (one.0, one.1, one.2) refl)
-      too_many (TooMany r n c) (inr h) = absurd (no_parts _ _ h)
-      too_many Memory h = inr refl
-      too_many LinkFault h = absurd (no_parts _ _ h)
-      too_many (BadLetter bytes) h = absurd (no_parts _ _ h)
-      too_many (Starved part phase) h = absurd (no_parts _ _ h)
+          first_so h.job h.inputs round stage count same.0 same.1 (may_fail (run.Over round stage count) line h)
+      is_told run.Memory line h = tt
+
+      -- the mesh stays within the limit
+      module _ (within : StaysWithin (plan_of job inputs) job.rounds inputs.mesh) where
+        not_past : (round stage count : ℕ) → IsFirstPast (plan_of job inputs) job.rounds inputs.mesh round stage count → ⊥
+        not_past round stage count at =
+            let few = within round stage at.least at.greatest at.in_round.stage_is in
+            let past = at.in_round.past in
+            let count_is = at.in_round.count_is in
+            absurd (omega (arith, few, past, count_is))
+
+        pub done : (status : Status) → Leaves status words s t → (status ≡ Done) ⊎ (status ≡ Memory)
+        done Done h = inl refl
+        done Usage h = absurd (none-some job (sym h.words_are ∙ is))
+        done ReadFault h = absurd (quiet.0 h.counted)
+        done WriteFault (inl h) = absurd (quiet.1 h.counted)
+        done WriteFault (inr h) = absurd (quiet.3 h.printed.0)
+        done (Refused r) h = absurd (not_refused h.job r h.words_are h.verdict)
+        done (TooMany round stage count) (inl h) = let same = same_run h.job h.inputs h.words_are h.verdict in absurd (not_past round stage count (first_so h.job h.inputs round stage count same.0 same.1 h.first))
+        done (TooMany round stage count) (inr h) = absurd (not_past round stage count (is_told (run.Over round stage count) _ h))
+        done Memory h = inr refl
+        done LinkFault h = absurd (is_told run.Link _ h)
+        done (BadLetter bytes) h = absurd (is_told (run.BadLetter bytes) _ h)
+        done (Starved part phase) h = absurd (is_told (run.Starved part phase) _ h)
+
+      -- there are too many tetrahedra
+      module _ (round stage count : ℕ) (first : IsFirstPast (plan_of job inputs) job.rounds inputs.mesh round stage count) where
+        not_within : StaysWithin (plan_of job inputs) job.rounds inputs.mesh → ⊥
+        not_within within =
+            let most = within round stage first.least first.greatest first.in_round.stage_is in
+            let past = first.in_round.past in
+            let count_is = first.in_round.count_is in
+            absurd (omega (arith, most, past, count_is))
+
+        within_so : (other : Job) (found : Inputs) → other ≡ job → found ≡ inputs → StaysWithin (plan_of other found) other.rounds found.mesh → StaysWithin (plan_of job inputs) job.rounds inputs.mesh
+        within_so other found e f within =
+            subst (λ (i : Inputs). StaysWithin (plan_of job i) job.rounds i.mesh) f (subst (λ (j : Job). StaysWithin (plan_of j found) j.rounds found.mesh) e within)
+
+        the_first : (r n c : ℕ) → IsFirstPast (plan_of job inputs) job.rounds inputs.mesh r n c → TooMany r n c ≡ TooMany round stage count
+        the_first r n c past = let one = only_first (plan_of job inputs) inputs.mesh job.rounds r round n stage c count past first in rw (one.0, one.1, one.2) refl
+
+        pub too_many : (status : Status) → Leaves status words s t → (status ≡ TooMany round stage count) ⊎ (status ≡ Memory)
+        too_many Done h = let same = same_run h.job h.inputs h.words_are h.verdict in absurd (not_within (within_so h.job h.inputs same.0 same.1 (h.within (arrived h.inputs same.1))))
+        too_many Usage h = absurd (none-some job (sym h.words_are ∙ is))
+        too_many ReadFault h = absurd (quiet.0 h.counted)
+        too_many WriteFault (inl h) = absurd (quiet.1 h.counted)
+        too_many WriteFault (inr h) = absurd (quiet.3 h.printed.0)
+        too_many (Refused r) h = absurd (not_refused h.job r h.words_are h.verdict)
+        too_many (TooMany r n c) (inl h) = let same = same_run h.job h.inputs h.words_are h.verdict in inl (the_first r n c (first_so h.job h.inputs r n c same.0 same.1 h.first))
+        too_many (TooMany r n c) (inr h) = inl (the_first r n c (is_told (run.Over r n c) _ h))
+        too_many Memory h = inr refl
+        too_many LinkFault h = absurd (is_told run.Link _ h)
+        too_many (BadLetter bytes) h = absurd (is_told (run.BadLetter bytes) _ h)
+        too_many (Starved part phase) h = absurd (is_told (run.Starved part phase) _ h)
 
 -- ---- the words are of another form
 module _ (words : Option Job) (s t : Seen) (none : words ≡ None) where
@@ -216,7 +204,7 @@ pub refusal_is_answered : (status : Status) (words : Option Job) (s t : Seen) �
 refusal_is_answered status words s t h = λ job files refusal is there due quiet. refused words s t job files is there quiet refusal due status h
 
 pub accepted_is_done : (status : Status) (words : Option Job) (s t : Seen) → Leaves status words s t → AcceptedIsDone status words s t
-accepted_is_done status words s t h = λ job files inputs is there due within arrive quiet. done words s t job files is there quiet inputs due within arrive status h
+accepted_is_done status words s t h = λ job files inputs is there due within arrive quiet. done words s t job files is there quiet inputs due arrive within status h
 
 pub too_many_is_answered : (status : Status) (words : Option Job) (s t : Seen) → Leaves status words s t → TooManyIsAnswered status words s t
-too_many_is_answered status words s t h = λ job files inputs round stage count is there due alone first quiet. too_many words s t job files is there quiet inputs due alone round stage count first status h
+too_many_is_answered status words s t h = λ job files inputs round stage count is there due arrive first quiet. too_many words s t job files is there quiet inputs due arrive round stage count first status h

@@ -1,15 +1,16 @@
 -- What a run does: the acts of one that meets no fault, in the order of work.
-use Rattle.std.specs.Prelude.{ℕ, zero, suc, ◌-◌, min, List, [], ◌∷◌, ◌++◌, length, map, Option, Some, None}
+use Rattle.std.specs.Prelude.{◌≡◌, ◌≤◌, ℕ, zero, suc, ◌+◌, ◌-◌, ◌*◌, min, List, [], ◌∷◌, ◌++◌, length, map}
 use Rattle.std.specs.FinMap.{insert}
 use Rattle.ma_cells.specs.declared.batch.Batch.{Batch}
 use Rattle.ma_cells.specs.declared.view.View.{View}
 use Rattle.ma_io.specs.Files.{Files}
 use Rattle.msh_write.specs.PartText.{part_text}
 use Rattle.msh_write.specs.Text.{text_of}
-use Rattle.one_mesh.specs.Adaptation.{Plan, adapted}
+use Rattle.one_mesh.specs.Adaptation.{adapted}
 use Rattle.part_phases.specs.Inboxes.{below}
 use Rattle.part_store.specs.Labelled.{LabelledMesh, view_of}
 use Rattle.part_store.specs.Stores.{view_in}
+use Rattle.refined_views.specs.Repeated.{refined_times}
 use Rattle.world_run.specs.Drawn.{letter_count}
 use Rattle.world_run.specs.Meshes.{labelled_mesh}
 use Rattle.world_run.specs.Told.{WorldState}
@@ -51,19 +52,23 @@ files_with [] files = files
 files_with (output ∷ more) files = files_with more (insert files output.name output.bytes)
 
 -- ---- the rounds
--- so many rounds, each with its line
-abbrev pub round_acts : Plan → ℕ → Batch → List Act
-round_acts plan zero mesh = []
-round_acts plan (suc n) mesh = round_acts plan n mesh ++ PutLine (round_line (suc n) (adapted plan (suc n) mesh)) ∷ []
+-- so many rounds, each with the line of the mesh after it
+abbrev pub round_acts : (meshes : ℕ → Batch) → ℕ → List Act
+round_acts meshes zero = []
+round_acts meshes (suc n) = round_acts meshes n ++ PutLine (round_line (suc n) (meshes (suc n))) ∷ []
 
 -- the line of the mesh, and so many rounds
-abbrev pub begun : ℕ → Job → Inputs → List Act
-begun rounds job inputs = PutLine (mesh_line inputs.mesh inputs.loose) ∷ round_acts (plan_of job inputs) rounds inputs.mesh
+abbrev pub begun : ℕ → Inputs → (meshes : ℕ → Batch) → List Act
+begun rounds inputs meshes = PutLine (mesh_line inputs.mesh inputs.loose) ∷ round_acts meshes rounds
+
+-- the mesh after each round as one part makes it
+abbrev pub adapted_by : Job → Inputs → ℕ → Batch
+adapted_by job inputs round = adapted (plan_of job inputs) round inputs.mesh
 
 -- ---- the end
--- the mesh after all rounds, what each part sees of it, and the last line
+-- the mesh after each round, what each part sees of the last, and the last line
 pub record Ending : Type 0 where
-  pub mesh : Batch
+  pub meshes : ℕ → Batch
   pub views : List View
   pub line : List ℕ
 
@@ -74,34 +79,40 @@ view_output job inputs view = record { name = part_name job view.part; bytes = p
 abbrev pub part_act : Job → Inputs → View → Act
 part_act job inputs view = let output : Output = view_output job inputs view in StoreFile output.name output.bytes
 
--- the mesh is stored, and what each part sees, with the names of the file, and the last line is put
+-- the mesh after all rounds is stored, and what each part sees, with the names of the file, and the last line is put
 abbrev pub end_acts : Job → Inputs → Ending → List Act
-end_acts job inputs ending = StoreFile (mesh_name job) (text_of ending.mesh inputs.names) ∷ (map (part_act job inputs) ending.views ++ PutLine ending.line ∷ [])
+end_acts job inputs ending = StoreFile (mesh_name job) (text_of (ending.meshes job.rounds) inputs.names) ∷ (map (part_act job inputs) ending.views ++ PutLine ending.line ∷ [])
 
--- the mesh after all rounds of one that isn't handed out
-abbrev pub final : Job → Inputs → Batch
-final job inputs = adapted (plan_of job inputs) job.rounds inputs.mesh
-
--- the end of a run without parts, and of one over parts by what these have come to
+-- the end of a run without parts, and of one over parts by what these came to after each of so many rounds
 abbrev pub plain_ending : Job → Inputs → Ending
-plain_ending job inputs = record { mesh = final job inputs; views = []; line = done_line }
+plain_ending job inputs = record { meshes = adapted_by job inputs; views = []; line = done_line }
 
-abbrev pub ending_by : WorldState → Ending
-ending_by world = record { mesh = union_in world.parts; views = map (λ part. view_in part.standing.holds) world.parts; line = parts_done_line (length world.parts) world.letters }
+abbrev pub meshes_by : (worlds : ℕ → WorldState) → ℕ → Batch
+meshes_by worlds round = union_in (worlds round).parts
 
--- the mesh of a job, with the labels of its parts
+abbrev pub ending_by : (worlds : ℕ → WorldState) → ℕ → Ending
+ending_by worlds rounds = record {
+  meshes = meshes_by worlds;
+  views = map (λ part. view_in part.standing.holds) (worlds rounds).parts;
+  line = parts_done_line (length (worlds rounds).parts) (worlds rounds).letters;
+}
+
+-- the mesh of a job, with the labels of its parts, and after a round
 abbrev pub whole : Handout → LabelledMesh
 whole handout = labelled_mesh handout.mesh handout.labels
 
--- the end that a run has where all letters arrive: the mesh as one part makes it, and each part's view of it
-abbrev pub meant_ending : Job → Inputs → Option Handout → Ending
-meant_ending job inputs None = plain_ending job inputs
-meant_ending job inputs (Some handout) =
-    record { mesh = final job inputs; views = map (view_of (whole handout)) (below handout.parts); line = parts_done_line handout.parts (letter_count handout.parts) }
+abbrev pub whole_after : Inputs → Handout → ℕ → LabelledMesh
+whole_after inputs handout round = refined_times round inputs.field (whole handout)
+
+-- that an end over parts is the one that is meant after so many rounds: after each the mesh as one part makes it, then each part's view of the last, and as many letters as the rounds have
+pub record IsMeant (job : Job) (inputs : Inputs) (handout : Handout) (rounds : ℕ) (ending : Ending) : Type 0 where
+  pub meshes : (round : ℕ) → round ≤ rounds → ending.meshes round ≡ adapted_by job inputs round
+  pub views : ending.views ≡ map (view_of (whole_after inputs handout rounds)) (below handout.parts)
+  pub line : ending.line ≡ parts_done_line handout.parts ((rounds + 1) * letter_count handout.parts)
 
 -- all of a run that ends so: the line of the mesh, the rounds, the files, and the last line
 abbrev pub acts_to : Ending → Job → Inputs → List Act
-acts_to ending job inputs = begun job.rounds job inputs ++ end_acts job inputs ending
+acts_to ending job inputs = begun job.rounds inputs ending.meshes ++ end_acts job inputs ending
 
 -- of how many rounds the lines are among the first acts of a run. Before them there is the line of the mesh, and after them there may be the last line
 abbrev pub rounds_among : Job → List Act → ℕ

@@ -42,7 +42,7 @@ pub record StoresKept (words : Option Job) (files : Files) (s t : Seen) : Type 0
   pub views : List View
   pub stored : t.depot.files ≡ Some (files_with (map (view_output job inputs) views) (files_map.insert files (mesh_name job) (text_of new inputs.names)))
   -- over parts, where all letters arrive
-  pub kept : LettersArrive s inputs.handout → KeepsGeometry inputs job.rounds new
+  pub kept : LettersArrive s.carrier inputs.handout → KeepsGeometry inputs job.rounds new
 
 -- Where the depot told its files, a run that is done has stored such a text. A run that ends
 -- otherwise may have stored a front of one, or nothing, and nothing is said of it.

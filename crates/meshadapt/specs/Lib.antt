@@ -2,6 +2,7 @@ pub mod Words
 pub mod Verdict
 pub mod Printed
 pub mod Acts
+pub mod OverParts
 pub mod Outcome
 pub mod Codes
 pub mod Geometry

@@ -1,5 +1,5 @@
 -- What a run leaves, by the status that it ends with.
-use Rattle.std.specs.Prelude.{◌≡◌, ℕ, ◌-◌, ◌<◌, ◌⊎◌, Bool, true, false, List, [], ◌∷◌, ◌++◌, length, take, Option, Some, None, Result, Ok, Err, IfSome, is_some}
+use Rattle.std.specs.Prelude.{◌≡◌, ℕ, ◌-◌, ◌<◌, ◌≤◌, ◌⊎◌, Bool, true, false, List, [], ◌∷◌, ◌++◌, length, take, Option, Some, None, Result, Ok, Err, IfSome, is_some}
 use Rattle.ma_io.specs.Count.{Rose}
 use Rattle.ma_io.specs.Files.{Files}
 use Rattle.ma_io.specs.Held.{Held}
@@ -7,17 +7,14 @@ use Rattle.ma_io.specs.Received.{Received}
 use Rattle.ma_io.specs.Store.{HoldsFront}
 use Rattle.job_files.specs.declared.fault.JobFault.TheVariants as job_faults
 use Rattle.mesh_check.specs.declared.fault.MeshFault.TheVariants as faults
-use Rattle.carrier.specs.Carried.{Carried, Letters}
-use Rattle.part_core.specs.Parts.{PartState}
-use Rattle.part_rules.specs.declared.course.Course.{Course}
-use Rattle.world_run.specs.Drawn.{Draws, EndsAlone, IfAllIsTold, letter_count, picks_left}
-use Rattle.world_run.specs.Replay.{begun_parts}
-use Rattle.world_run.specs.Told.{HasCause, RunTells, WorldState}
+use Rattle.carrier.specs.Carried.{Carried}
+use Rattle.world_run.specs.Told.{HasCause, WorldState}
 use Rattle.world_run.specs.declared.fault.RunFault.{RunFault}
 use Rattle.world_run.specs.declared.fault.RunFault.TheVariants as run
 use Rattle.msh_read.specs.declared.fault.MshFault.TheVariants.{At, Memory as NoMemory}
 use Rattle.one_mesh.specs.Adaptation.{IsFirstPast, StaysWithin}
-use Rattle.meshadapt.specs.Acts.{Act, PutLine, StoreFile, Ending, Output, acts_to, begun, bytes_of, ending_by, files_with, meant_ending, outputs, plain_ending, rounds_among, whole}
+use Rattle.meshadapt.specs.Acts.{Act, PutLine, StoreFile, Ending, IsMeant, Output, acts_to, adapted_by, begun, bytes_of, ending_by, files_with, meshes_by, outputs, plain_ending, rounds_among}
+use Rattle.meshadapt.specs.OverParts.{AllArrive, AreAll, ComesOf}
 use Rattle.meshadapt.specs.declared.status.Refusal.{Refusal}
 use Rattle.meshadapt.specs.declared.status.Refusal.TheVariants.{Missing, TooLong, Mesh, Accept, Partition, Size, Schedule, Rounds}
 use Rattle.meshadapt.specs.declared.status.FileKind.{FileKind}
@@ -64,33 +61,21 @@ abbrev pub PutsLast : List ℕ → List ℕ → Received → Received → Type 0
 PutsLast bytes line s t = Puts (bytes ++ line) s t ⊎ PutsFront bytes line s t
 
 -- ---- parts
-abbrev pub course_of : Job → Inputs → Handout → Course
-course_of job inputs handout = record { parts = handout.parts; grid = inputs.grid; collapse = job.collapses; swap = job.swaps; field = inputs.field }
+-- that a run may have come through so many rounds, and ends so if it has no more: without parts by the mesh alone; over parts by what these have come to, which is what is meant where all letters arrive
+abbrev pub MayEnd : Job → Inputs → Option Handout → (rounds : ℕ) → Carried → Carried → Ending → Type 0
+MayEnd job inputs None rounds s t ending = ending ≡ plain_ending job inputs
+MayEnd job inputs (Some handout) rounds s t ending =
+    (worlds : ℕ → WorldState) × ComesOf job inputs handout worlds rounds s t (Ok (worlds rounds)) × AreAll handout rounds worlds × (ending ≡ ending_by worlds rounds)
+    × (AllArrive handout.parts s → IsMeant job inputs handout rounds ending)
 
--- the parts of a mesh once they have begun the first round of all
-abbrev pub parts_at_first : Job → Inputs → Handout → List PartState
-parts_at_first job inputs handout = begun_parts (course_of job inputs handout) (whole handout)
+-- that a run which comes to its act behind so many others is at this round: at its line, or past all rounds
+abbrev pub IsAt : Job → (before round : ℕ) → Type 0
+IsAt job before round = ((before ≡ round) × (round ≤ job.rounds)) ⊎ (round ≡ job.rounds)
 
--- that all letters of so many parts arrive: one part sends none; else the carrier tells which it hands out and which wait, and none waited
-abbrev pub AllArrive : ℕ → Carried → Type 0
-AllArrive parts carried = (parts ≡ 1) ⊎ ((carried.held ≡ Some []) × ((before : Letters) × (carried.given ≡ Some before)))
-
--- that parts have come to this over the carrier: where it told what it handed out, by the letters that it handed out in this run. Where it told besides which letters wait, and none did, these are the ones that the schedule draws, no letter was bad, and none was missing. One part comes to its end by itself
-pub record ComesOf (job : Job) (inputs : Inputs) (handout : Handout) (s t : Carried) (result : Result WorldState RunFault) : Type 0 where
-  pub told : IfSome s.given (λ before. RunTells (parts_at_first job inputs handout) before t.given result)
-  pub drawn : IfAllIsTold s (λ before. Draws (course_of job inputs handout) (whole handout) (picks_left handout.schedule) before t result)
-  pub alone : handout.parts ≡ 1 → EndsAlone (course_of job inputs handout) (whole handout) s t result
-
--- these are all parts, and as many letters have come to them as the first round has
-pub record AreAll (handout : Handout) (world : WorldState) : Type 0 where
-  pub parts : length world.parts ≡ handout.parts
-  pub letters : world.letters ≡ letter_count handout.parts
-
--- that a run may end so: without parts by the mesh alone; over parts by what these have come to, which is what is meant where all letters arrive
-abbrev pub MayEnd : Job → Inputs → Option Handout → Carried → Carried → Ending → Type 0
-MayEnd job inputs None s t ending = ending ≡ plain_ending job inputs
-MayEnd job inputs (Some handout) s t ending =
-    (world : WorldState) × ComesOf job inputs handout s t (Ok world) × AreAll handout world × (ending ≡ ending_by world) × (AllArrive handout.parts s → ending ≡ meant_ending job inputs (Some handout))
+-- that all letters of a job arrive, if it has any
+abbrev pub LettersArrive : Carried → Option Handout → Type 0
+LettersArrive s None = Unit {0}
+LettersArrive s (Some handout) = AllArrive handout.parts s
 
 -- ---- by the status
 -- that a run with this end came to an act after these: before the end, whatever it is
@@ -98,14 +83,15 @@ pub record IsOnTheWay (job : Job) (inputs : Inputs) (s t : Carried) (done : List
   pub ending : Ending
   pub rest : List Act
   pub acts_are : acts_to ending job inputs ≡ done ++ act ∷ rest
-  pub ends : (length done < length (begun job.rounds job inputs)) ⊎ MayEnd job inputs inputs.handout s t ending
+  -- the line of the mesh is the first of all
+  pub ends : (done ≡ []) ⊎ ((round : ℕ) × IsAt job (length done) round × MayEnd job inputs inputs.handout round s t ending)
 
--- the job of the words was accepted, and its run came to this act after these. The rounds whose lines were put or due are within the limit
+-- the job of the words was accepted, and its run came to this act after these. The rounds whose lines were put or due are within the limit, if all letters arrive
 pub record ComesTo (words : Option Job) (s t : Seen) (job : Job) (inputs : Inputs) (done : List Act) (act : Act) : Type 0 where
   pub words_are : words ≡ Some job
   pub verdict : IsVerdict s job (Ok inputs)
   pub way : IsOnTheWay job inputs s.carrier t.carrier done act
-  pub within : StaysWithin (plan_of job inputs) (rounds_among job (done ++ act ∷ [])) inputs.mesh
+  pub within : LettersArrive s.carrier inputs.handout → StaysWithin (plan_of job inputs) (rounds_among job (done ++ act ∷ [])) inputs.mesh
 
 -- all acts were done
 pub record LeavesDone (words : Option Job) (s t : Seen) : Type 0 where
@@ -113,9 +99,9 @@ pub record LeavesDone (words : Option Job) (s t : Seen) : Type 0 where
   pub inputs : Inputs
   pub words_are : words ≡ Some job
   pub verdict : IsVerdict s job (Ok inputs)
-  pub within : StaysWithin (plan_of job inputs) job.rounds inputs.mesh
+  pub within : LettersArrive s.carrier inputs.handout → StaysWithin (plan_of job inputs) job.rounds inputs.mesh
   pub ending : Ending
-  pub ends : MayEnd job inputs inputs.handout s.carrier t.carrier ending
+  pub ends : MayEnd job inputs inputs.handout job.rounds s.carrier t.carrier ending
   pub files : Stores (outputs (acts_to ending job inputs)) s.depot.files t.depot.files
   pub printed : Puts (bytes_of (acts_to ending job inputs)) s.sink t.sink
 
@@ -170,9 +156,17 @@ pub record LeavesTooMany (round stage count : ℕ) (words : Option Job) (s t : S
   pub alone : inputs.handout ≡ None
   pub first : IsFirstPast (plan_of job inputs) job.rounds inputs.mesh round stage count
   pub files : t.depot.files ≡ s.depot.files
-  pub printed : PutsLast (bytes_of (begun (round - 1) job inputs)) (too_many_line round stage count) s.sink t.sink
+  pub printed : PutsLast (bytes_of (begun (round - 1) inputs (adapted_by job inputs))) (too_many_line round stage count) s.sink t.sink
 
--- the parts of a mesh came to a fault, by which the run ended with this line
+-- how a run over parts may end early where all its letters arrive: too many tetrahedra are those of the one mesh, and no letter is bad or missing
+abbrev pub MayFail : Job → Inputs → RunFault → Type 0
+MayFail job inputs run.Link = Unit {0}
+MayFail job inputs (run.BadLetter bytes) = ⊥
+MayFail job inputs (run.Starved part phase) = ⊥
+MayFail job inputs (run.Over round stage count) = IsFirstPast (plan_of job inputs) job.rounds inputs.mesh round stage count
+MayFail job inputs run.Memory = Unit {0}
+
+-- the parts of a mesh came to a fault in this round, by which the run ended with this line
 pub record LeavesParts (fault : RunFault) (line : List ℕ) (words : Option Job) (s t : Seen) : Type 0 where
   pub job : Job
   pub inputs : Inputs
@@ -180,10 +174,14 @@ pub record LeavesParts (fault : RunFault) (line : List ℕ) (words : Option Job)
   pub words_are : words ≡ Some job
   pub verdict : IsVerdict s job (Ok inputs)
   pub handed : inputs.handout ≡ Some handout
-  pub comes : ComesOf job inputs handout s.carrier t.carrier (Err fault)
+  pub round : ℕ
+  pub upto : round ≤ job.rounds
+  pub worlds : ℕ → WorldState
+  pub comes : ComesOf job inputs handout worlds round s.carrier t.carrier (Err fault)
   pub cause : HasCause {W = WorldState} s.carrier t.carrier (Err fault)
+  pub meant : AllArrive handout.parts s.carrier → MayFail job inputs fault × ((before : ℕ) → before < round → meshes_by worlds before ≡ adapted_by job inputs before)
   pub files : t.depot.files ≡ s.depot.files
-  pub printed : PutsLast (bytes_of (begun 0 job inputs)) line s.sink t.sink
+  pub printed : PutsLast (bytes_of (begun (round - 1) inputs (meshes_by worlds))) line s.sink t.sink
 
 -- the store of a file failed
 pub record LeavesUnstored (words : Option Job) (s t : Seen) : Type 0 where
@@ -246,11 +244,6 @@ LeavesCarrier words s t = are_over_parts words ≡ false → t.carrier ≡ s.car
 abbrev pub IsQuiet : Seen → Seen → Type 0
 IsQuiet s t = ¬ (Rose s.depot.fetch_faults t.depot.fetch_faults) × ¬ (Rose s.depot.store_faults t.depot.store_faults) × ¬ (Rose s.carrier.faults t.carrier.faults) × ¬ (Rose s.sink.faults t.sink.faults)
 
--- that all letters of a job arrive, if it has any
-abbrev pub LettersArrive : Seen → Option Handout → Type 0
-LettersArrive s None = Unit {0}
-LettersArrive s (Some handout) = AllArrive handout.parts s.carrier
-
 -- this status, unless memory ran out
 abbrev pub EndsWith : Status → Status → Type 0
 EndsWith status wanted = (status ≡ wanted) ⊎ (status ≡ Memory)
@@ -268,10 +261,10 @@ RefusalIsAnswered status words s t =
 abbrev pub AcceptedIsDone : Status → Option Job → Seen → Seen → Type 0
 AcceptedIsDone status words s t =
     (job : Job) (files : Files) (inputs : Inputs) → words ≡ Some job → s.depot.files ≡ Some files → verdict files job ≡ Ok inputs
-    → StaysWithin (plan_of job inputs) job.rounds inputs.mesh → LettersArrive s inputs.handout → IsQuiet s t → EndsWith status Done
+    → StaysWithin (plan_of job inputs) job.rounds inputs.mesh → LettersArrive s.carrier inputs.handout → IsQuiet s t → EndsWith status Done
 
 -- likewise, the first stage after which the mesh of such a job is past the limit is answered
 abbrev pub TooManyIsAnswered : Status → Option Job → Seen → Seen → Type 0
 TooManyIsAnswered status words s t =
     (job : Job) (files : Files) (inputs : Inputs) (round stage count : ℕ) → words ≡ Some job → s.depot.files ≡ Some files → verdict files job ≡ Ok inputs
-    → inputs.handout ≡ None → IsFirstPast (plan_of job inputs) job.rounds inputs.mesh round stage count → IsQuiet s t → EndsWith status (TooMany round stage count)
+    → LettersArrive s.carrier inputs.handout → IsFirstPast (plan_of job inputs) job.rounds inputs.mesh round stage count → IsQuiet s t → EndsWith status (TooMany round stage count)

@@ -108,13 +108,13 @@ plain_job_of words = do
   sizes ← sizes_of mesh.1
   job_with mesh.0 sizes.0 None 30 most_passes sizes.1
 
--- the words --mesh M --uniform H --parts P --partition F --schedule Q --rounds 0 --collapse 0 --swap 0 --out X, likewise. Parts run no round but the first of all yet
+-- the words --mesh M --uniform H --parts P --partition F --schedule Q --rounds N --collapse 0 --swap 0 --out X, likewise. Parts make no passes yet
 unfoldable pub divided_job_of : List (List ℕ) → Option Job
 divided_job_of words = do
   mesh ← value_of (codes "--mesh") words
   sizes ← sizes_of mesh.1
   division ← division_of sizes.1
-  job_with mesh.0 sizes.0 (Some division.0) 0 0 division.1
+  job_with mesh.0 sizes.0 (Some division.0) 30 0 division.1
 
 -- the job that the words ask for
 unfoldable pub job_of : List (List ℕ) → Option Job

@@ -2,4 +2,5 @@
 pub mod Asking
 pub mod Fetching
 pub mod Running
+pub mod OverRounds
 pub mod Storing

@@ -1,5 +1,5 @@
 // Fetches what a run starts from.
-ghost use Rattle.std.specs.Prelude.{◌≡◌, IfOk, true};
+ghost use Rattle.std.specs.Prelude.{◌≡◌, ◌≤◌, IfOk, true};
 ghost use Rattle.std.specs.Option.{option_map};
 ghost use Rattle.ma_cells.specs.Meshes.{MarkedMesh};
 ghost use Rattle.std.specs.FinMap.{get};
@@ -258,6 +258,7 @@ fn fetch_handout<D: Depot>(
 fn within_grid(fetched: Fetched, rounds: u32) -> Result<Fetched, Halt>
     ensures value { Reads (λ within. inputs_of within) result (within_grid rounds (inputs_of fetched)) }
     ensures same { IfOk result (λ within. within ≡ fetched) }
+    ensures finer { IfOk result (λ within. rounds ≤ within.accepted.grid) }
 {
     let grid = fetched.accepted.grid;
     if rounds <= grid {
@@ -274,6 +275,7 @@ pub fn fetch_inputs<D: Depot>(alloc: Global, depot: &mut D, job: &Job) -> Result
     ensures store_faults { (D.held depot.new).store_faults ≡ (D.held depot.old).store_faults }
     ensures fetches { Fetches (asked job.now) (λ fetched. inputs_of fetched) result (λ files. verdict files (asked job.now)) (D.held depot.old) (D.held depot.new) }
     ensures runnable { IfOk result (λ fetched. CanRun job.now.division fetched) }
+    ensures finer { IfOk result (λ fetched. job.now.rounds ≤ fetched.accepted.grid) }
 {
     let accepted = fetch_mesh(alloc, depot, job)?;
     let tets = accepted.mesh.tets().len();

@@ -1,5 +1,5 @@
 //! Adapts a tetrahedral mesh: reads a mesh file, refines the mesh in rounds to the wanted size of
-//! edges, and writes it in canonical order.
+//! edges, by itself or over parts, and writes it in canonical order.
 #![tactic(auto)]
 
 mod fetching;
@@ -7,6 +7,7 @@ mod halt;
 mod laws;
 mod lines;
 mod measures;
+mod part_rounds;
 mod parts;
 mod putting;
 mod rounds;

@@ -1,21 +1,20 @@
 // The run of a mesh that is handed out to parts.
-ghost use Rattle.std.specs.Prelude.{◌≡◌, ◌++◌, Some, codes, map, length};
+ghost use Rattle.std.specs.Prelude.{◌≡◌, ◌≤◌, ◌++◌, Some, codes, map, length};
 ghost use Rattle.std.specs.Fmt.{decimal};
 ghost use Rattle.msh_write.specs.PartText.{part_text};
-ghost use Rattle.msh_write.specs.Text.{text_of};
 ghost use Rattle.one_mesh.specs.Holding.{set_of};
 ghost use Rattle.part_store.specs.Stores.{view_in};
-ghost use Rattle.world_run.specs.Union.{union_in};
-ghost use Rattle.meshadapt.specs.Outcome.{course_of};
+ghost use Rattle.meshadapt.specs.OverParts.{course_of};
 ghost use Rattle.meshadapt.specs.Printed.{mesh_line};
 ghost use Rattle.meshadapt.specs.steps.Asking.{IsInRange, asked};
 ghost use Rattle.meshadapt.specs.steps.Fetching.{HandoutFits, IsRunnable, handout_of, inputs_over};
-ghost use Rattle.meshadapt.specs.steps.Running.{PutsLine, RunsFrom, RunsParts, StoresOne};
+ghost use Rattle.meshadapt.specs.steps.Running.{PutsLine, RunsFrom, StoresOne};
 ghost use Rattle.meshadapt.specs.steps.Storing.{StoresAll, view_outputs};
 
-use crate::fetching::{Accepted, Fetched, Handout};
+use crate::fetching::{Accepted, Handout};
 use crate::halt::Halt;
 use crate::lines::{part_name, parts_done_line};
+use crate::part_rounds::{Ran, run_world};
 use crate::putting::put_line;
 use crate::rounds::put_mesh;
 use crate::storing::{store_file, store_mesh};
@@ -24,11 +23,11 @@ use carrier::Carrier;
 use ma_cells::View;
 use ma_io::{Depot, Sink};
 use msh_read::Name;
-use msh_write::{nodes_of, write_part};
+use msh_write::write_part;
 use one_mesh::OneMesh;
 use part_rules::Course;
 use std::alloc::Global;
-use world_run::{RunFault, World};
+use world_run::World;
 
 /// Puts the line of the mesh.
 fn begin_run<S: Sink>(alloc: Global, accepted: &Accepted, out: &mut S) -> Result<(), Halt>
@@ -37,36 +36,6 @@ fn begin_run<S: Sink>(alloc: Global, accepted: &Accepted, out: &mut S) -> Result
     let mesh = OneMesh::from_mesh(alloc, &accepted.mesh)?;
     put_mesh(alloc, mesh.batch(), accepted.mesh.loose(), out)?;
     Ok(())
-}
-
-/// Runs all parts of the mesh.
-fn run_world<C: Carrier>(
-    alloc: Global,
-    job: &Job,
-    accepted: &Accepted,
-    course: Course,
-    handout: &mut Handout,
-    carrier: &mut C,
-) -> Result<World, Halt>
-    requires right { IsInRange job.now }
-    requires runs { IsRunnable accepted.now.mesh accepted.now.grid }
-    requires fits { HandoutFits job.now.division (length accepted.now.mesh.tets) (Some handout.old) }
-    requires course { course ≡ course_of (asked job.now) (inputs_over accepted.now course.field handout.old) (handout_of accepted.now.mesh handout.old) }
-    ensures { RunsParts result (asked job.now) (inputs_over accepted.now course.field handout.old) (handout_of accepted.now.mesh handout.old) (C.carried carrier.old) (C.carried carrier.new) }
-{
-    let labels = handout.labels.as_slice();
-    match World::start(
-        alloc,
-        course,
-        &accepted.mesh,
-        labels,
-        carrier,
-        &mut handout.schedule,
-    ) {
-        Ok(world) => Ok(world),
-        Err(RunFault::Memory) => Err(Halt::Memory),
-        Err(fault) => Err(Halt::Parts(fault)),
-    }
 }
 
 /// Stores what a part sees, under a name with its number.
@@ -103,21 +72,6 @@ fn store_views<D: Depot>(
     Ok(())
 }
 
-/// Stores the whole mesh.
-fn store_whole<D: Depot>(
-    alloc: Global,
-    depot: &mut D,
-    world: &World,
-    names: &[Name],
-    out: &str,
-) -> Result<(), Halt>
-    ensures { StoresOne result (out.now ++ codes ".msh") (text_of (union_in world.now.parts) names.now) (D.held depot.old) (D.held depot.new) }
-{
-    let whole = world.reassemble(alloc)?;
-    let nodes = nodes_of(alloc, whole.tets.as_slice())?;
-    store_mesh(alloc, depot, &whole, &nodes, names, out)
-}
-
 /// Does what a job over parts asks for, but for the last line of a run that is not done.
 pub fn run_parts<D: Depot, C: Carrier, S: Sink>(
     alloc: Global,
@@ -132,14 +86,15 @@ pub fn run_parts<D: Depot, C: Carrier, S: Sink>(
     requires right { IsInRange job.now }
     requires runs { IsRunnable accepted.now.mesh accepted.now.grid }
     requires fits { HandoutFits job.now.division (length accepted.now.mesh.tets) (Some handout.old) }
+    requires finer { job.now.rounds ≤ accepted.now.grid }
     requires course { course ≡ course_of (asked job.now) (inputs_over accepted.now course.field handout.old) (handout_of accepted.now.mesh handout.old) }
     ensures { RunsFrom result (asked job.now) (inputs_over accepted.now course.field handout.old) (C.carried carrier.old) (C.carried carrier.new) (D.held depot.old) (D.held depot.new) (S.received out.old) (S.received out.new) }
 {
     begin_run(alloc, accepted, out)?;
     let parts = handout.parts;
-    let world = run_world(alloc, job, accepted, course, handout, carrier)?;
+    let Ran { world, whole } = run_world(alloc, job, accepted, course, handout, carrier, out)?;
     let names = accepted.names.as_slice();
-    store_whole(alloc, depot, &world, names, job.out)?;
+    store_mesh(alloc, depot, &whole.mesh, &whole.nodes, names, job.out)?;
     store_views(alloc, depot, &world, parts, names, job.out)?;
     let line = parts_done_line(alloc, parts, world.letters())?;
     put_line(out, line.as_bytes())

@@ -39,7 +39,7 @@ pub fn put_mesh<S: Sink>(
 }
 
 /// Puts the line of a mesh after this round.
-fn put_round<S: Sink>(
+pub fn put_round<S: Sink>(
     alloc: Global,
     round: u32,
     mesh: &Batch,

@@ -549,7 +549,7 @@ fn a_size_file_is_refused_behind_the_mesh_and_before_the_rounds(
 
 /// Words of a run over parts of another form, those of a run in each line.
 const OTHER_PARTS: &str =
-    "--mesh m.msh --uniform 4 --parts 0 --partition one.part --schedule q --rounds 0 --collapse 0 --swap 0 --out x\n--mesh m.msh --uniform 4 --parts 65 --partition one.part --schedule q --rounds 0 --collapse 0 --swap 0 --out x\n--mesh m.msh --uniform 4 --parts 1 --schedule q --partition one.part --rounds 0 --collapse 0 --swap 0 --out x\n--mesh m.msh --uniform 4 --parts 1 --partition one.part --schedule q --rounds 1 --collapse 0 --swap 0 --out x\n";
+    "--mesh m.msh --uniform 4 --parts 0 --partition one.part --schedule q --rounds 0 --collapse 0 --swap 0 --out x\n--mesh m.msh --uniform 4 --parts 65 --partition one.part --schedule q --rounds 0 --collapse 0 --swap 0 --out x\n--mesh m.msh --uniform 4 --parts 1 --schedule q --partition one.part --rounds 0 --collapse 0 --swap 0 --out x\n--mesh m.msh --uniform 4 --parts 1 --partition one.part --schedule q --rounds 31 --collapse 0 --swap 0 --out x\n--mesh m.msh --uniform 4 --parts 1 --partition one.part --schedule q --rounds 1 --collapse 1 --swap 0 --out x\n--mesh m.msh --uniform 4 --parts 1 --partition one.part --schedule q --rounds 1 --collapse 0 --swap 1 --out x\n";
 
 #[test]
 fn other_words_over_parts_are_answered_with_usage(rt: HostRuntime) -> Result<(), Fail> {

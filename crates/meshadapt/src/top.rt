@@ -113,8 +113,9 @@ fn run<D: Depot, C: Carrier, S: Sink>(
 /// run ends with that line for another reason.
 ///
 /// Where the words tell of parts, the mesh is handed out to them by the partition file. They speak
-/// by letters that go over the carrier, of which those are taken next that the schedule file picks,
-/// and what each part sees at the end is stored too. Parts run no round yet.
+/// by letters that go over the carrier, of which those are taken next that the schedule file picks.
+/// In each round a part refines its own of the mesh by itself, and then learns from the others what
+/// lies beside it. What each part sees at the end is stored too. Parts make no passes yet.
 pub fn meshadapt<D: Depot, C: Carrier, S: Sink>(
     alloc: Global,
     words: &[String],

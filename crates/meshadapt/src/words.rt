@@ -13,7 +13,7 @@ const MOST_PARTS: u32 = 64;
 /// How many rounds may be run.
 const MOST_ROUNDS: u32 = 30;
 
-/// How many passes of a kind a round may have.
+/// How many passes of a kind a round may have that isn't over parts.
 const MOST_PASSES: u32 = 16;
 
 /// The sizes that edges are to have.
@@ -47,9 +47,9 @@ pub struct Job<'a> {
     pub division: Option<Division<'a>>,
     /// How many rounds are run, at most 30.
     pub rounds: u32,
-    /// How many collapse passes a round has, at most 16.
+    /// How many collapse passes a round has, at most 16, and none over parts.
     pub collapses: u32,
-    /// How many swap passes it has, at most 16.
+    /// How many swap passes it has, likewise.
     pub swaps: u32,
     /// The front of the names of what is stored.
     pub out: &'a str,
@@ -223,7 +223,7 @@ fn divided_job_of<'a>(words: &'a [String]) -> Option<Job<'a>>
     let (mesh, options) = value_of("--mesh", words)?;
     let (sizes, options) = sizes_of(options)?;
     let (division, options) = division_of(options)?;
-    job_with(mesh, sizes, Some(division), (0, 0), options)
+    job_with(mesh, sizes, Some(division), (MOST_ROUNDS, 0), options)
 }
 
 /// The job that the words ask for. None where they are of neither form, in its order.

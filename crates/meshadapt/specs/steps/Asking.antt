@@ -29,17 +29,18 @@ pub record HasParts (division : DivisionWords) : Type 0 where
   pub least : 1 ≤ division.parts
   pub most : division.parts ≤ 64
 
--- the first round of all is the only one over parts
-pub record RunsOverParts (count : ℕ) (division : DivisionWords) : Type 0 where
+-- parts make no passes
+pub record RunsOverParts (collapses swaps : ℕ) (division : DivisionWords) : Type 0 where
   pub parts : HasParts division
-  pub first : count ≡ 0
+  pub no_collapses : collapses ≡ 0
+  pub no_swaps : swaps ≡ 0
 
-abbrev pub IfDivided : ℕ → Option DivisionWords → Type 0
-IfDivided rounds None = Unit {0}
-IfDivided rounds (Some division) = RunsOverParts rounds division
+abbrev pub IfDivided : (collapses swaps : ℕ) → Option DivisionWords → Type 0
+IfDivided collapses swaps None = Unit {0}
+IfDivided collapses swaps (Some division) = RunsOverParts collapses swaps division
 
 pub record IsInRange (job : Words) : Type 0 where
   pub sizes : HasSize job.sizes
-  pub division : IfDivided job.rounds job.division
+  pub division : IfDivided job.collapses job.swaps job.division
   pub collapses : job.collapses ≤ most_passes
   pub swaps : job.swaps ≤ most_passes

@@ -7,6 +7,8 @@ use Rattle.ma_io.specs.Files.{Files}
 use Rattle.ma_io.specs.Held.{Held}
 use Rattle.job_files.specs.declared.fault.JobFault.TheVariants as job_faults
 use Rattle.mesh_check.specs.Accepted.{most_accepted_tets}
+use Rattle.mesh_laws.specs.Adapted.{IsSoundMesh}
+use Rattle.one_mesh.specs.Holding.{set_of}
 use Rattle.mesh_check.specs.declared.fault.MeshFault.TheVariants as faults
 use Rattle.msh_read.specs.declared.fault.MshFault.TheVariants.{At, Memory as NoMemory}
 use Rattle.size_marks.specs.Field.{Field}
@@ -45,7 +47,7 @@ abbrev pub inputs_over : Accepted → Field → FetchedHandout → Inputs
 inputs_over accepted field handout = inputs_with (accepted_mesh accepted) field (Some (handout_of accepted.mesh handout))
 
 -- ---- what is needed for a run over parts
--- that parts can be run on a mesh, on its grid: its marks are a set of marks on cells of its tetrahedra, and there are not too many of these
+-- that parts can be run on a mesh, on its grid: its marks are a set of marks on cells of its tetrahedra, there are not too many of these and none is there twice, and the mesh is sound
 pub record IsRunnable (mesh : MarkedMesh) (grid : ℕ) : Type 0 where
   pub coarsest : grid ≤ 30
   pub tets : are_on_grid grid mesh.tets ≡ true
@@ -54,6 +56,8 @@ pub record IsRunnable (mesh : MarkedMesh) (grid : ℕ) : Type 0 where
   pub rise : IsStrictlySortedBy mark_cmp mesh.marks
   pub cells : list_all (λ mark. is_cell mark.cell) mesh.marks ≡ true
   pub on_cells : list_all (λ mark. is_on mesh.tets mark.cell) mesh.marks ≡ true
+  pub sound : IsSoundMesh (set_of mesh)
+  pub once : length (set_of mesh).tets ≡ length mesh.tets
 
 -- there is a label for each of so many tetrahedra, each below the number of parts
 pub record AreLabels (parts tets : ℕ) (labels : List ℕ) : Type 0 where

@@ -1,6 +1,7 @@
 -- What the steps of a run leave. No public contract names it, and it is no promise.
-use Rattle.std.specs.Prelude.{◌≡◌, ℕ, ◌+◌, ◌-◌, ◌≤◌, ◌⊎◌, true, false, List, [], ◌∷◌, ◌++◌, None, Some, Result, Ok, Err, IfSome, string_bytes}
+use Rattle.std.specs.Prelude.{◌≡◌, ℕ, ◌+◌, ◌-◌, ◌<◌, ◌≤◌, ◌⊎◌, true, false, List, [], ◌∷◌, ◌++◌, None, Some, Result, Ok, Err, IfSome, string_bytes}
 use Rattle.std.specs.FinMap.{insert}
+use Rattle.carrier.specs.Carried.{Carried}
 use Rattle.ma_cells.specs.declared.batch.Batch.{Batch}
 use Rattle.ma_io.specs.Count.{Rose}
 use Rattle.ma_io.specs.Held.{Held}
@@ -12,13 +13,12 @@ use Rattle.meshadapt.specs.declared.halt.Halt.{Halt}
 use Rattle.meshadapt.specs.declared.halt.Halt.TheVariants as halt
 use Rattle.meshadapt.specs.declared.status.Status.{Status}
 use Rattle.meshadapt.specs.declared.status.Status.TheVariants.{ReadFault, WriteFault, Refused, TooMany, Memory, LinkFault, BadLetter, Starved}
-use Rattle.carrier.specs.Carried.{Carried}
-use Rattle.world_run.specs.Drawn.{SeeMesh}
 use Rattle.world_run.specs.Told.{HasCause, WorldState}
 use Rattle.world_run.specs.declared.fault.RunFault.{RunFault}
 use Rattle.world_run.specs.declared.fault.RunFault.TheVariants as run
-use Rattle.meshadapt.specs.Acts.{Act, PutLine, StoreFile, begun, bytes_of, outputs, round_acts, rounds_among, whole}
-use Rattle.meshadapt.specs.Outcome.{AllArrive, AreAll, ComesOf, ComesTo, IsVerdict, LeavesDone, LeavesMemory, LeavesUnput, Puts, PutsFront, PutsLast, RefusalCounted, Seen, StoresFront, seen}
+use Rattle.meshadapt.specs.Acts.{Act, PutLine, StoreFile, adapted_by, begun, bytes_of, meshes_by, outputs, round_acts, rounds_among}
+use Rattle.meshadapt.specs.Outcome.{ComesTo, IsVerdict, LeavesDone, LeavesMemory, LeavesUnput, MayFail, Puts, PutsFront, PutsLast, RefusalCounted, Seen, StoresFront, seen}
+use Rattle.meshadapt.specs.OverParts.{AllArrive, ComesOf}
 use Rattle.meshadapt.specs.Printed.{bad_letter_line, file_name, is_of_job, link_fault_line, read_fault_line, refused_line, round_line, starved_line, too_many_line, write_fault_line}
 use Rattle.meshadapt.specs.Verdict.{Handout, Inputs, plan_of, verdict}
 use Rattle.meshadapt.specs.Words.{Job}
@@ -46,24 +46,28 @@ RunsRound (Err halt.Unput) round plan mesh new s t = RoundStaysWithin plan mesh 
 RunsRound (Err (halt.Parts fault)) round plan mesh new s t = ⊥
 RunsRound (Err halt.Memory) round plan mesh new s t = Unit {0}
 
+-- the mesh after each round by a plan
+abbrev pub by_plan : Plan → Batch → ℕ → Batch
+by_plan plan mesh round = adapted plan round mesh
+
 -- so many rounds were run, all within the limit, and their lines put
 abbrev pub RanRounds : Plan → ℕ → Batch → Holding → Received → Received → Type 0
 RanRounds plan rounds mesh new s t =
-    (new ≡ record { mesh = adapted plan rounds mesh; spent = false }) × StaysWithin plan rounds mesh × Puts (bytes_of (round_acts plan rounds mesh)) s t
+    (new ≡ record { mesh = adapted plan rounds mesh; spent = false }) × StaysWithin plan rounds mesh × Puts (bytes_of (round_acts (by_plan plan mesh) rounds)) s t
 
 -- the line of the round behind so many could not be put
 pub record HaltsRounds (plan : Plan) (rounds : ℕ) (mesh : Batch) (s t : Received) : Type 0 where
   pub done : ℕ
   pub more : done + 1 ≤ rounds
   pub within : StaysWithin plan (done + 1) mesh
-  pub front : PutsFront (bytes_of (round_acts plan done mesh)) (round_line (done + 1) (adapted plan (done + 1) mesh)) s t
+  pub front : PutsFront (bytes_of (round_acts (by_plan plan mesh) done)) (round_line (done + 1) (adapted plan (done + 1) mesh)) s t
 
 -- likewise, or why not
 abbrev pub RunsRounds : {X : Type 0} → Result X Halt → Plan → ℕ → Batch → Holding → Received → Received → Type 0
 RunsRounds (Ok _) plan rounds mesh new s t = RanRounds plan rounds mesh new s t
 RunsRounds (Err (halt.Unread file)) plan rounds mesh new s t = ⊥
 RunsRounds (Err (halt.Refused refusal)) plan rounds mesh new s t = ⊥
-RunsRounds (Err (halt.TooMany round stage count)) plan rounds mesh new s t = IsFirstPast plan rounds mesh round stage count × Puts (bytes_of (round_acts plan (round - 1) mesh)) s t
+RunsRounds (Err (halt.TooMany round stage count)) plan rounds mesh new s t = IsFirstPast plan rounds mesh round stage count × Puts (bytes_of (round_acts (by_plan plan mesh) (round - 1))) s t
 RunsRounds (Err (halt.Unstored name)) plan rounds mesh new s t = ⊥
 RunsRounds (Err halt.Unput) plan rounds mesh new s t = HaltsRounds plan rounds mesh s t
 RunsRounds (Err (halt.Parts fault)) plan rounds mesh new s t = ⊥
@@ -74,7 +78,7 @@ pub record HaltsBegun (job : Job) (inputs : Inputs) (s t : Received) : Type 0 wh
   pub done : List Act
   pub line : List ℕ
   pub rest : List Act
-  pub acts_are : begun job.rounds job inputs ≡ done ++ PutLine line ∷ rest
+  pub acts_are : begun job.rounds inputs (adapted_by job inputs) ≡ done ++ PutLine line ∷ rest
   pub within : StaysWithin (plan_of job inputs) (rounds_among job (done ++ PutLine line ∷ [])) inputs.mesh
   pub none_stored : outputs done ≡ []
   pub front : PutsFront (bytes_of done) line s t
@@ -82,11 +86,11 @@ pub record HaltsBegun (job : Job) (inputs : Inputs) (s t : Received) : Type 0 wh
 -- the line of the mesh was put and all rounds were run, or why not
 abbrev pub Begins : {X : Type 0} → Result X Halt → Job → Inputs → Holding → Received → Received → Type 0
 Begins (Ok _) job inputs new s t =
-    (new ≡ record { mesh = adapted (plan_of job inputs) job.rounds inputs.mesh; spent = false }) × StaysWithin (plan_of job inputs) job.rounds inputs.mesh × Puts (bytes_of (begun job.rounds job inputs)) s t
+    (new ≡ record { mesh = adapted (plan_of job inputs) job.rounds inputs.mesh; spent = false }) × StaysWithin (plan_of job inputs) job.rounds inputs.mesh × Puts (bytes_of (begun job.rounds inputs (adapted_by job inputs))) s t
 Begins (Err (halt.Unread file)) job inputs new s t = ⊥
 Begins (Err (halt.Refused refusal)) job inputs new s t = ⊥
 Begins (Err (halt.TooMany round stage count)) job inputs new s t =
-    IsFirstPast (plan_of job inputs) job.rounds inputs.mesh round stage count × Puts (bytes_of (begun (round - 1) job inputs)) s t
+    IsFirstPast (plan_of job inputs) job.rounds inputs.mesh round stage count × Puts (bytes_of (begun (round - 1) inputs (adapted_by job inputs))) s t
 Begins (Err (halt.Unstored name)) job inputs new s t = ⊥
 Begins (Err halt.Unput) job inputs new s t = HaltsBegun job inputs s t
 Begins (Err (halt.Parts fault)) job inputs new s t = ⊥
@@ -114,7 +118,7 @@ pub record HaltsTooMany (round stage count : ℕ) (job : Job) (s t : Seen) : Typ
   pub alone : inputs.handout ≡ None
   pub first : IsFirstPast (plan_of job inputs) job.rounds inputs.mesh round stage count
   pub files : t.depot.files ≡ s.depot.files
-  pub printed : Puts (bytes_of (begun (round - 1) job inputs)) s.sink t.sink
+  pub printed : Puts (bytes_of (begun (round - 1) inputs (adapted_by job inputs))) s.sink t.sink
 
 pub record HaltsUnstored (name : List ℕ) (job : Job) (s t : Seen) : Type 0 where
   pub inputs : Inputs
@@ -125,33 +129,20 @@ pub record HaltsUnstored (name : List ℕ) (job : Job) (s t : Seen) : Type 0 whe
   pub files : StoresFront (outputs done) name bytes s.depot.files t.depot.files
   pub printed : Puts (bytes_of done) s.sink t.sink
 
--- the parts came to a fault
+-- the parts came to a fault in this round
 pub record HaltsParts (fault : RunFault) (job : Job) (s t : Seen) : Type 0 where
   pub inputs : Inputs
   pub handout : Handout
   pub verdict : IsVerdict s job (Ok inputs)
   pub handed : inputs.handout ≡ Some handout
-  pub comes : ComesOf job inputs handout s.carrier t.carrier (Err fault)
+  pub round : ℕ
+  pub upto : round ≤ job.rounds
+  pub worlds : ℕ → WorldState
+  pub comes : ComesOf job inputs handout worlds round s.carrier t.carrier (Err fault)
   pub cause : HasCause {W = WorldState} s.carrier t.carrier (Err fault)
+  pub meant : AllArrive handout.parts s.carrier → MayFail job inputs fault × ((before : ℕ) → before < round → meshes_by worlds before ≡ adapted_by job inputs before)
   pub files : t.depot.files ≡ s.depot.files
-  pub printed : Puts (bytes_of (begun 0 job inputs)) s.sink t.sink
-
--- the parts have come to an end, where each sees its own of the mesh if all letters arrive
-pub record EndsParts (job : Job) (inputs : Inputs) (handout : Handout) (s t : Carried) (world : WorldState) : Type 0 where
-  pub comes : ComesOf job inputs handout s t (Ok world)
-  pub all : AreAll handout world
-  pub see : AllArrive handout.parts s → SeeMesh (whole handout) world.parts
-
--- what the run of all parts answers
-abbrev pub RunsParts : Result WorldState Halt → Job → Inputs → Handout → Carried → Carried → Type 0
-RunsParts (Ok world) job inputs handout s t = EndsParts job inputs handout s t world
-RunsParts (Err (halt.Unread file)) job inputs handout s t = ⊥
-RunsParts (Err (halt.Refused refusal)) job inputs handout s t = ⊥
-RunsParts (Err (halt.TooMany round stage count)) job inputs handout s t = ⊥
-RunsParts (Err (halt.Unstored name)) job inputs handout s t = ⊥
-RunsParts (Err halt.Unput) job inputs handout s t = ⊥
-RunsParts (Err (halt.Parts fault)) job inputs handout s t = ComesOf job inputs handout s t (Err fault) × HasCause {W = WorldState} s t (Err fault)
-RunsParts (Err halt.Memory) job inputs handout s t = Unit {0}
+  pub printed : Puts (bytes_of (begun (round - 1) inputs (meshes_by worlds))) s.sink t.sink
 
 -- a run of a job did all of its acts, or before its last line is put has come to this
 abbrev pub Runs : {X : Type 0} → Result X Halt → Job → Seen → Seen → Type 0

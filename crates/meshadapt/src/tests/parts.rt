@@ -28,6 +28,23 @@ const NONE: Elements<'_> = ["", "", ""];
 
 const NAMES: [&str; 3] = ["x.msh", "x.p0.msh", "x.p1.msh"];
 
+/// The words of a job with these options over so many parts and rounds.
+fn words_with(
+    alloc: Global,
+    mesh: &str,
+    size: &str,
+    parts: u8,
+    partition: &str,
+    schedule: &str,
+    rounds: u8,
+) -> Result<Vec<String>, Fail> {
+    let line = format!(in alloc;
+        "--mesh {mesh} --uniform {size} --parts {parts} --partition {partition} --schedule {schedule} --rounds {rounds} --collapse 0 --swap 0 --out x"
+    )?;
+    words_in(alloc, line.as_str())
+}
+
+/// The words of a job without rounds.
 fn words_of(
     alloc: Global,
     mesh: &str,
@@ -35,10 +52,7 @@ fn words_of(
     partition: &str,
     schedule: &str,
 ) -> Result<Vec<String>, Fail> {
-    let line = format!(in alloc;
-        "--mesh {mesh} --uniform 4 --parts {parts} --partition {partition} --schedule {schedule} --rounds 0 --collapse 0 --swap 0 --out x"
-    )?;
-    words_in(alloc, line.as_str())
+    words_with(alloc, mesh, "4", parts, partition, schedule, 0)
 }
 
 /// The files of a run, of whose stores these fail.
@@ -265,5 +279,107 @@ fn one_part_takes_nothing_from_its_carrier(rt: HostRuntime) -> Result<(), Fail> 
     let left = run(&rt, rt.alloc(), words.as_slice(), &[], &mut carrier)?;
     let lines = "mesh: tets 2 nodes 5 marks 0 loose 0\ndone: parts 1 letters 0\n";
     assert!(rt; left.status.code() == 0 && left.sink.bytes() == lines.as_bytes());
+    Ok(())
+}
+
+/// A run of this size and so many rounds without parts.
+fn run_plainly(rt: &impl Abort, alloc: Global, size: &str, rounds: u8) -> Result<Left, Fail> {
+    let line = format!(in alloc;
+        "--plain --mesh m.msh --uniform {size} --rounds {rounds} --collapse 0 --swap 0 --out x"
+    )?;
+    let words = words_in(alloc, line.as_str())?;
+    let mut carrier = queue(alloc, &[])?;
+    run(rt, alloc, words.as_slice(), &[], &mut carrier)
+}
+
+/// A run over two parts.
+fn run_divided(
+    rt: &impl Abort,
+    alloc: Global,
+    size: &str,
+    partition: &str,
+    schedule: &str,
+    rounds: u8,
+) -> Result<Left, Fail> {
+    let words = words_with(alloc, "m.msh", size, 2, partition, schedule, rounds)?;
+    let mut carrier = queue(alloc, &[])?;
+    run(rt, alloc, words.as_slice(), &[], &mut carrier)
+}
+
+/// Whether a run over parts printed what a run without parts did, but for this last line, and stored
+/// the same mesh.
+fn is_as_plain(left: &Left, plain: &Left, last: &str) -> bool {
+    let lines = left.sink.bytes().strip_suffix(last.as_bytes());
+    let bytes = left.depot.bytes_of("x.msh");
+    left.status.code() == 0
+        && lines.is_some()
+        && lines == plain.sink.bytes().strip_suffix(b"done: plain\n")
+        && bytes.is_some()
+        && bytes == plain.depot.bytes_of("x.msh")
+}
+
+/// Whether two runs printed the same and stored the same.
+fn are_alike(left: &Left, other: &Left) -> bool {
+    left.sink.bytes() == other.sink.bytes()
+        && NAMES.iter().all(|name| left.depot.bytes_of(name) == other.depot.bytes_of(name))
+}
+
+/// Whether a round of this size over two parts makes what one makes without parts, in any order of letters.
+fn is_the_same_in_any_order(rt: &impl Abort, alloc: Global, size: &str) -> Result<bool, Fail> {
+    let plain = run_plainly(rt, alloc, size, 1)?;
+    let left = run_divided(rt, alloc, size, "apart", "oldest", 1)?;
+    for schedule in ["second", "ones", "large"] {
+        let other = run_divided(rt, alloc, size, "apart", schedule, 1)?;
+        if !are_alike(&left, &other) {
+            return Ok(false);
+        }
+    }
+    Ok(is_as_plain(&left, &plain, "done: parts 2 letters 12\n"))
+}
+
+// A size of 4 bisects all edges, and one of 10 the diagonals alone.
+#[test]
+fn a_round_over_two_parts_makes_the_mesh_that_one_makes_in_any_order_of_letters(
+    rt: HostRuntime,
+) -> Result<(), Fail> {
+    assert!(rt; is_the_same_in_any_order(&rt, rt.alloc(), "4")?);
+    assert!(rt; is_the_same_in_any_order(&rt, rt.alloc(), "10")?);
+    Ok(())
+}
+
+#[test]
+fn three_rounds_over_two_parts_make_the_mesh_that_one_makes(rt: HostRuntime) -> Result<(), Fail> {
+    let plain = run_plainly(&rt, rt.alloc(), "3", 3)?;
+    let left = run_divided(&rt, rt.alloc(), "3", "apart", "second", 3)?;
+    assert!(rt; is_as_plain(&left, &plain, "done: parts 2 letters 24\n"));
+    Ok(())
+}
+
+#[test]
+fn a_part_without_tetrahedra_goes_through_a_round(rt: HostRuntime) -> Result<(), Fail> {
+    let plain = run_plainly(&rt, rt.alloc(), "4", 1)?;
+    let left = run_divided(&rt, rt.alloc(), "4", "first", "ones", 1)?;
+    assert!(rt; is_as_plain(&left, &plain, "done: parts 2 letters 12\n"));
+    assert!(rt; left.depot.bytes_of("x.p1.msh") == Some(EMPTY.as_bytes()));
+    Ok(())
+}
+
+/// Whether a run of one round over two parts whose letter of this number is lost ends so.
+fn starves_at(rt: &impl Abort, alloc: Global, number: u64, lines: &str) -> Result<bool, Fail> {
+    let words = words_with(alloc, "m.msh", "4", 2, "apart", "oldest", 1)?;
+    let mut carrier = TestCarrier::new(queue(alloc, &[])?, number, Change::Lose);
+    let left = run(rt, alloc, words.as_slice(), &[], &mut carrier)?;
+    Ok(
+        left.status.code() == 9
+            && left.sink.bytes() == lines.as_bytes()
+            && left.depot.bytes_of("x.msh").is_none(),
+    )
+}
+
+// Round 0 takes the first six letters.
+#[test]
+fn a_letter_that_is_lost_in_round_1_leaves_no_line_of_it(rt: HostRuntime) -> Result<(), Fail> {
+    let lines = "mesh: tets 2 nodes 5 marks 0 loose 0\nstarved: part 0 phase 0\n";
+    assert!(rt; starves_at(&rt, rt.alloc(), 8, lines)?);
     Ok(())
 }

@@ -80,3 +80,6 @@ returns-clause-runnable g c =
     let fit : LabelsFit division (length accepted.mesh.tets) labels = subst (λ (n : ℕ). LabelsFit division n labels) tets c.in_ok-labels.ensures.fit in
     subst (CanRun division) (sym c.in_ok-within.ensures.same)
     (record { mesh = c.in_ok-accepted.ensures.fit; handout = hands_fit division (length accepted.mesh.tets) labels c.in_ok-handout.handout fit c.in_ok-handout.ensures.hands })
+
+pub returns-clause-finer : goal.returns-clause-finer
+returns-clause-finer g c = c.in_ok-within.ensures.finer

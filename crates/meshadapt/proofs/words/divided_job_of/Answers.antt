@@ -4,4 +4,4 @@ use Rattle.meshadapt.proofs.words.divided_job_of.Goals as goal
 pub returns-clause-right : goal.returns-clause-right
 returns-clause-right c =
     divided_in_range c.in_ok-sizes.sizes c.in_ok-division.division c.job_with.result c.in_ok-sizes.ensures.range c.in_ok-division.ensures.range
-    c.job_with.ensures.sizes c.job_with.ensures.division c.job_with.ensures.rounds c.job_with.ensures.passes
+    c.job_with.ensures.sizes c.job_with.ensures.division c.job_with.ensures.passes
