@@ -115,6 +115,10 @@ def of_tetrahedra(corners):
     return np.abs(determinants(b - a, c - a, d - a)) / 6, surface
 
 
+def total_volume(points, tetrahedra) -> float:
+    return of_tetrahedra([points[tetrahedra[:, n]] for n in range(4)])[0].sum()
+
+
 MEASURES = (of_points, of_lines, of_triangles, of_tetrahedra)
 
 
@@ -275,6 +279,31 @@ def parts_see_their_own_and_what_lies_around(model: str):
         own = {tuple(point) for point in view.points[view.cells[3].corners[owners == part]].reshape(-1, 3).tolist()}
         around = sum(any(tuple(point) in own for point in corners) for corners in mesh.points[mesh.tetrahedra].tolist())
         assert around == len(view.tetrahedra), (around, len(view.tetrahedra))
+
+
+def parts_refine_as_the_whole_does(model: str):
+    whole = whole_of(model)
+    if not shutil.which("mpmetis"):
+        return "mpmetis isn't there"
+    partition, schedule, out = (model.replace(".msh", ending) for ending in (".part5", ".sched5", "_parts5"))
+    done("part", whole, 5, partition)
+    Path(schedule).write_text("".join(f"{11 * n}\n" for n in range(200)))
+    size = size_between(whole)
+    ended = ran(PROGRAM, "--mesh", whole, "--uniform", size, "--parts", 5, "--partition", partition, "--schedule", schedule, "--rounds", 2, "--collapse", 0, "--swap", 0, "--out", out)
+    assert ended.returncode == 0 and ended.stdout.endswith("done: parts 5 letters 180\n"), ended.stdout
+    # The lines of rounds and the whole are those of a run without parts.
+    words = ("--plain", "--mesh", whole, "--uniform", size, "--rounds", 2, "--collapse", 0, "--swap", 0, "--out", f"{out}_plain")
+    assert ran(PROGRAM, *words).stdout.splitlines()[:-1] == ended.stdout.splitlines()[:-1]
+    assert Path(f"{out}.msh").read_bytes() == Path(f"{out}_plain.msh").read_bytes()
+    # The parts' own tetrahedra make up the whole, and each part has the volume that it had.
+    before, after = read_mesh(whole), read_mesh(f"{out}.msh")
+    labels = np.array(Path(partition).read_text().split(), int)
+    views = [read_mesh(f"{out}.p{part}.msh") for part in range(5)]
+    owned = [view.tetrahedra[view.cells[3].parts() == part] for part, view in enumerate(views)]
+    assert sum(map(len, owned)) == len(after.tetrahedra)
+    for part, view in enumerate(views):
+        volume = total_volume(before.points, before.tetrahedra[labels == part])
+        assert abs(total_volume(view.points, owned[part]) - volume) <= 1e-9 * volume, part
 
 
 def pictures_show_the_mesh(model: str):
@@ -438,6 +467,39 @@ def parts_are_cell_data(folder: str):
         done("picture", f"{folder}/two.vtu", f"{folder}/two.png", "--colour", "part")
 
 
+def parts_refine_as_was_worked_out(folder: str):
+    mesh, partition, schedule, size = (f"{folder}/divided{ending}" for ending in (".msh", ".part", ".sched", ".size"))
+    Path(schedule).write_text("")
+    Path(size).write_text("default 64\nbox 0 0 0 4 4 4 2\n")
+
+    def run_over_parts(labels: str, sizes: tuple, rounds: int) -> str:
+        """What a run over two parts prints, where it stores the mesh and puts the lines of rounds of a run without parts."""
+        Path(partition).write_text(labels)
+        rest = (*sizes, "--rounds", rounds, "--collapse", 0, "--swap", 0, "--out")
+        plain = ran(PROGRAM, "--plain", "--mesh", mesh, *rest, f"{folder}/plain")
+        division = ("--parts", 2, "--partition", partition, "--schedule", schedule)
+        ended = ran(PROGRAM, "--mesh", mesh, *sizes, *division, *rest[2:], f"{folder}/parts")
+        assert ended.returncode == plain.returncode, ended.stdout
+        if ended.returncode:
+            assert ended.stdout == plain.stdout
+            return ended.stdout
+        assert ended.stdout.splitlines()[:-1] == plain.stdout.splitlines()[:-1], ended.stdout
+        assert Path(f"{folder}/parts.msh").read_bytes() == Path(f"{folder}/plain.msh").read_bytes()
+        return ended.stdout
+
+    # Two tetrahedra with a common face, a common edge and a common corner, over two parts.
+    apexes = ((8, 8, 8), (0, -8, -8), (-8, -8, 8))
+    for apex, common in zip(apexes, ((2, 3, 4), (1, 2), (1,))):
+        rest = [(0, -8, 0), (0, 0, -8)][: 3 - len(common)]
+        as_msh(mesh, [(0, 0, 0), (8, 0, 0), (0, 8, 0), (0, 0, 8), apex, *rest], [(4, (0, 1), (1, 2, 3, 4)), (4, (0, 1), (*common, *range(5, 9 - len(common))))])
+        for labels in ("0\n1\n", "1\n0\n", "0\n0\n"):
+            assert run_over_parts(labels, ("--uniform", 4), 1).endswith("done: parts 2 letters 12\n")
+            assert run_over_parts(labels, ("--size", size), 2).endswith("done: parts 2 letters 18\n")
+    # Each round makes eight of one, and the seventh too many, also where a part has none.
+    as_msh(mesh, [(0, 0, 0), (128, 0, 0), (0, 128, 0), (0, 0, 128)], [(4, (0, 1), (1, 2, 3, 4))])
+    assert run_over_parts("1\n", ("--uniform", 1), 7).endswith("too many: round 7 stage 0 tets 2097152\n")
+
+
 def one_dimension_is_written_alone(folder: str):
     # The fourth point of the tetrahedron isn't on the triangle.
     as_msh(f"{folder}/alone.msh", CORNER, [(2, (5, 1), (1, 2, 3)), (4, (7, 1), (1, 2, 3, 4))])
@@ -550,7 +612,7 @@ def wrapper_explains(folder: str):
     assert (ended.returncode, ended.stderr) == (0, "") and ended.stdout.endswith("done: plain\n"), ended
 
 
-ON_EACH_MODEL = (rounding_keeps_measures, refinement_keeps_measures, coarsening_keeps_measures, formats_read_back, parts_are_balanced, parts_see_their_own_and_what_lies_around, pictures_show_the_mesh, version_2_is_read_as_4)
+ON_EACH_MODEL = (rounding_keeps_measures, refinement_keeps_measures, coarsening_keeps_measures, formats_read_back, parts_are_balanced, parts_see_their_own_and_what_lies_around, parts_refine_as_the_whole_does, pictures_show_the_mesh, version_2_is_read_as_4)
 ONCE = (
     flat_and_turned_are_named,
     nodes_together_are_named,
@@ -562,6 +624,7 @@ ONCE = (
     sizes_are_in_whole_units,
     size_files_are_taken,
     parts_are_cell_data,
+    parts_refine_as_was_worked_out,
     one_dimension_is_written_alone,
     coordinates_come_back,
     groups_of_newer_files_are_read,
