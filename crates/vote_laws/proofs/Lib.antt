@@ -1,5 +1,5 @@
-mod Leads
-mod Legal
-mod Seen
-mod Votes
+pub mod Leads
+pub mod Legal
+pub mod Seen
+pub mod Votes
 mod Together

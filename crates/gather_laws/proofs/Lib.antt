@@ -1,0 +1,5 @@
+mod Filled
+mod Delivering
+mod After
+mod Applying
+mod Next
