@@ -1,9 +1,9 @@
 -- Places in boxes around others.
-use Rattle.std.proofs.Common.{◌≡◌, ◌≤◌, true, false, List, [], ◌∷◌, filter, refl, sym, ◌∙◌, arith}
+use Rattle.std.proofs.Common.{◌≡◌, ◌≤◌, true, List, [], ◌∷◌, filter, refl, arith}
 use Rattle.std.specs.Prelude.{ℤ, Bool, ◌&&◌, int_le, unsigned_abs}
 use Rattle.std.specs.Int.{int_max, int_min}
 use Rattle.std.specs.List.{list_all}
-use Rattle.std.proofs.lemmas.Bool.{and_from, and_parts, false≢true, false_from_ne_true}
+use Rattle.std.proofs.lemmas.Bool.{and_from, and_parts, false≢true}
 use Rattle.std.proofs.lemmas.Int.{clamps, ints}
 use mir.Syntax.{w32}
 use mir.Val.{to_z, of_z}
@@ -128,9 +128,3 @@ pub far_on_none : (bounds : Bounds) (tets : List Tetrahedron) (marks : List Cell
     → marks_on tets (filter (λ mark. are_within bounds (corners_of mark.cell)) marks) ≡ marks_on tets marks
 far_on_none bounds tets marks around =
     filter-filter (λ mark. are_within bounds (corners_of mark.cell)) (λ mark. is_on tets mark.cell) marks (λ mark _ on. cell_in bounds tets mark.cell around on)
-
--- ---- places
--- what is not in the box around some places is none of them
-pub outside_none : (bounds : Bounds) (places : List Coordinates) (place : Coordinates) → are_within bounds places ≡ true → is_within bounds place ≡ false → has place_cmp place places ≡ false
-outside_none bounds places place around out =
-    false_from_ne_true (has place_cmp place places) (λ there. false≢true (sym out ∙ at_member place_cmp-IsAntisymmetric (is_within bounds) place places around there))

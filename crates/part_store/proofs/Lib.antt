@@ -5,3 +5,4 @@ mod FoundMarks
 mod Gathered
 mod BoxedPlaces
 mod OwnMarks
+mod Sieved

@@ -42,17 +42,10 @@ pub(crate) fn marks_got(alloc: Global, batches: &[(Label, Batch)]) -> Result<Vec
     Ok(got)
 }
 
-/// Tetrahedra, and behind them those of others without their labels.
-pub(crate) fn all_of(
-    alloc: Global,
-    own: &[Tet],
-    others: &[(Tet, Label)],
-) -> Result<Vec<Tet>, Memory>
-    ensures { IfOk result (λ all. all.items ≡ own.now ++ map tet_of others.now) }
+/// Tetrahedra without their labels.
+pub(crate) fn tets_of(alloc: Global, entries: &[(Tet, Label)]) -> Result<Vec<Tet>, Memory>
+    ensures { IfOk result (λ tets. tets.items ≡ map tet_of entries.now) }
 {
-    let mut all = Vec::from_slice(alloc, own)?;
-    for other in others {
-        all.push(other.0)?;
-    }
-    Ok(all)
+    let tets = entries.iter().map(|entry| entry.0).collect(alloc)?;
+    Ok(tets)
 }

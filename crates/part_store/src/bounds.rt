@@ -1,14 +1,12 @@
-// Boxes around places, by which most marks and tetrahedra are told apart at once.
+// Boxes around places, by which most marks are told from tetrahedra at once.
 ghost use Rattle.std.specs.Prelude.{◌≡◌, ◌≤◌, ◌&&◌, true, unsigned_abs};
 ghost use Rattle.std.specs.List.{list_all};
-ghost use Rattle.ma_geom.specs.Coordinates.{limit, place_cmp};
-ghost use Rattle.ma_cells.specs.Ascending.{ascending_of, has};
+ghost use Rattle.ma_geom.specs.Coordinates.{limit};
 ghost use Rattle.ma_cells.specs.Cells.{corners_of};
 ghost use Rattle.part_store.specs.steps.Boxes.{are_within, is_under, is_within, lower, upper, with_all, with_place};
 
-use ma_cells::{Ascending, Cell, Tet};
+use ma_cells::{Cell, Tet};
 use ma_geom::Place;
-use std::marker::Model;
 
 /// The place with these coordinates, which are in range.
 fn place_at(x: i32, y: i32, z: i32) -> Place
@@ -85,13 +83,6 @@ impl Bounds {
         bounds
     }
 
-    /// The box around these places.
-    pub(crate) fn of_places(places: &[Place]) -> Bounds
-        ensures { are_within result places.now ≡ true }
-    {
-        Bounds::Nothing.with_all(places)
-    }
-
     /// The box around the corners of these tetrahedra.
     pub(crate) fn of_tets(tets: &[Tet]) -> Bounds
         ensures { list_all (λ tet. are_within result tet.corners) tets.now ≡ true }
@@ -128,42 +119,5 @@ impl Bounds {
             Cell::Seg(ends) => self.has_all(&ends),
             Cell::Tri(corners) => self.has_all(&corners),
         }
-    }
-}
-
-/// A set of places, and the box around them. What is outside of the box isn't looked up.
-#[derive(Debug, Drop)]
-pub(crate) struct BoundedSet {
-    places: Ascending<Place>,
-    bounds: Bounds,
-}
-
-impl Model for BoundedSet {
-    ghost use Rattle.std.specs.Prelude.{◌≡◌, List, true};
-    ghost use Rattle.ma_geom.specs.Coordinates.{Coordinates};
-    ghost use Rattle.part_store.specs.steps.Boxes.{are_within};
-
-    ghost Value = { List Coordinates };
-
-    ghost view = { λ s. s.places };
-
-    ghost invariant = { λ s. are_within s.bounds s.places ≡ true };
-}
-
-impl BoundedSet {
-    /// The set of these places, in n log n steps.
-    pub(crate) fn gather(places: Vec<Place>) -> BoundedSet
-        ensures { result ≡ ascending_of place_cmp places.items }
-    {
-        let places = Ascending::gather(places);
-        let bounds = Bounds::of_places(places.as_slice());
-        BoundedSet { places, bounds }
-    }
-
-    /// Whether a place is in the set.
-    pub(crate) fn has(&self, place: Place) -> bool
-        ensures { result ≡ has place_cmp place self.now }
-    {
-        self.bounds.has(place) && self.places.contains(&place)
     }
 }

@@ -7,6 +7,7 @@ mod bounds;
 mod corners;
 mod laws;
 mod marks;
+mod sieve;
 mod store;
 
 pub use laws::views_agree;

@@ -11,7 +11,8 @@ ghost use Rattle.ma_cells.specs.declared.cell.Cell.{Cell};
 ghost use Rattle.part_store.specs.Labelled.{marks_on};
 ghost use Rattle.part_store.specs.steps.Boxes.{are_within};
 
-use crate::bounds::{BoundedSet, Bounds};
+use crate::bounds::Bounds;
+use crate::sieve::SievedSet;
 use ma_cells::{Ascending, Cell, Mark, Tet};
 use ma_geom::{Memory, Place};
 use std::alloc::Global;
@@ -107,18 +108,18 @@ fn push_corners(into: &mut Vec<Place>, cell: Cell) -> Result<(), Memory>
 }
 
 /// The corners of these cells.
-fn corners_of(alloc: Global, cells: &[Cell]) -> Result<BoundedSet, Memory>
+fn corners_of(alloc: Global, cells: &[Cell]) -> Result<SievedSet, Memory>
     ensures { IfOk result (λ corners. corners ≡ ascending_of place_cmp (flat_map (λ cell. corners_of cell) cells.now)) }
 {
     let mut corners = Vec::new(alloc);
     for cell in cells {
         push_corners(&mut corners, *cell)?;
     }
-    Ok(BoundedSet::gather(corners))
+    SievedSet::gather(alloc, corners)
 }
 
 /// Puts down those of the places that are among some others.
-fn find_among(near: &mut Vec<Place>, others: &BoundedSet, places: &[Place]) -> Result<(), Memory>
+fn find_among(near: &mut Vec<Place>, others: &SievedSet, places: &[Place]) -> Result<(), Memory>
     ensures { OnOk result (near.new.items ≡ filter (λ place. has place_cmp place others.now) places.now) }
 {
     near.clear();
@@ -156,7 +157,7 @@ fn push_found(
     found: &mut Vec<Cell>,
     near: &mut Vec<Place>,
     wanted: &Ascending<Cell>,
-    corners: &BoundedSet,
+    corners: &SievedSet,
     tet: &Tet,
 ) -> Result<(), Memory>
     requires { corners.now ≡ ascending_of place_cmp (flat_map (λ cell. corners_of cell) wanted.now) }

@@ -1,5 +1,5 @@
 // The store of a part.
-ghost use Rattle.std.specs.Prelude.{◌≡◌, ◌≢◌, ◌<◌, ◌^◌, ◌∷◌, [], length, IfOk, OnErr, OnOk};
+ghost use Rattle.std.specs.Prelude.{◌≡◌, ◌≢◌, ◌<◌, ◌^◌, ◌∷◌, ◌++◌, [], length, IfOk, OnErr, OnOk};
 ghost use Rattle.std.specs.List.{All};
 ghost use Rattle.std.specs.List.Sorted.{IsStrictlySortedBy};
 ghost use Rattle.ma_cells.specs.Ascending.{ascending_of};
@@ -12,7 +12,7 @@ ghost use Rattle.part_store.specs.Labelled.{corner_set, marks_on};
 ghost use Rattle.part_store.specs.Stores.{own_after, replaced, started, view_in, with_ghosts, with_marks, with_shared};
 
 use crate::around::{around, labels_of, owner_of};
-use crate::batches::{all_of, marks_got, tets_got};
+use crate::batches::{marks_got, tets_got, tets_of};
 use crate::corners::corner_set;
 use crate::marks::{mark_set, marks_at, marks_on};
 use letters::Shared;
@@ -25,7 +25,8 @@ use std::marker::Model;
 /// cells of both, and the places that it shares with others.
 ///
 /// Each list is sorted. What changes the store takes n log n steps for n entries of it and of what is
-/// given. `star`, `marks_at`, `residents` and `owner_of` go through the whole lists.
+/// given. `star`, `marks_at`, `residents` and `owner_of` go through the whole lists. The corners of own
+/// tetrahedra and the marks on their cells are kept, so that who asks for them gets a copy.
 #[derive(Debug, Drop)]
 pub struct Store {
     part: Label,
@@ -33,19 +34,20 @@ pub struct Store {
     ghosts: Ascending<(Tet, Label)>,
     marks: Ascending<Mark>,
     shared: Vec<Shared>,
+    corners: Ascending<Place>,
+    own_marks: Ascending<Mark>,
 }
 
 impl Model for Store {
-    ghost use Rattle.std.specs.Prelude.{◌≡◌, []};
-    ghost use Rattle.part_store.specs.Labelled.{marks_on};
+    ghost use Rattle.std.specs.Prelude.{◌≡◌};
+    ghost use Rattle.part_store.specs.Labelled.{corner_set, marks_on};
     ghost use Rattle.part_store.specs.Stores.{StoreState};
 
     ghost Value = { StoreState };
 
     ghost view = { λ s. record { part = s.part; own = s.own; ghosts = s.ghosts; marks = s.marks; shared = s.shared.items } };
 
-    // Without ghosts all marks are on own cells, so that they need no look-up.
-    ghost invariant = { λ s. s.ghosts ≡ [] → marks_on s.own s.marks ≡ s.marks };
+    ghost invariant = { λ s. (s.corners ≡ corner_set s.own) × (s.own_marks ≡ marks_on s.own s.marks) };
 }
 
 fn tet_set(tets: Vec<Tet>) -> Ascending<Tet>
@@ -60,19 +62,44 @@ fn ghost_set(ghosts: Vec<(Tet, Label)>) -> Ascending<(Tet, Label)>
     Ascending::gather(ghosts)
 }
 
+/// The same set in a list of its own.
+fn copy_of<T: Ord + Copy>(alloc: Global, set: &Ascending<T>) -> Result<Ascending<T>, Memory>
+    ensures { IfOk result (λ copy. copy ≡ set.now) }
+{
+    let items = Vec::from_slice(alloc, set.as_slice())?;
+    Ok(Ascending::from_vec(items))
+}
+
+/// The marks of a set, and of other marks those on cells of these tetrahedra.
+fn joined_on(
+    alloc: Global,
+    marks: &Ascending<Mark>,
+    tets: &[Tet],
+    others: &[Mark],
+) -> Result<Ascending<Mark>, Memory>
+    ensures { IfOk result (λ joined. joined ≡ ascending_of mark_cmp (marks.now ++ marks_on tets.now others.now)) }
+{
+    let kept = mark_set(marks_on(alloc, tets, others)?);
+    marks.union(alloc, &kept)
+}
+
 impl Store {
     /// The store of a part with these tetrahedra, each once, and the marks on their cells.
     pub fn start(alloc: Global, part: Label, own: &[Tet], marks: &[Mark]) -> Result<Store, Memory>
         ensures { IfOk result (λ store. store ≡ started part own.now marks.now) }
     {
-        let tets = Vec::from_slice(alloc, own)?;
-        let kept = marks_on(alloc, own, marks)?;
+        let tets = tet_set(Vec::from_slice(alloc, own)?);
+        let corners = corner_set(alloc, tets.as_slice())?;
+        let marks = mark_set(marks_on(alloc, own, marks)?);
+        let own_marks = copy_of(alloc, &marks)?;
         Ok(Store {
             part,
-            own: tet_set(tets),
+            own: tets,
             ghosts: Ascending::new(alloc),
-            marks: mark_set(kept),
+            marks,
             shared: Vec::new(alloc),
+            corners,
+            own_marks,
         })
     }
 
@@ -95,27 +122,21 @@ impl Store {
     pub fn own_tets(&self, alloc: Global) -> Result<Ascending<Tet>, Memory>
         ensures { IfOk result (λ tets. tets ≡ self.now.own) }
     {
-        let tets = Vec::from_slice(alloc, self.own.as_slice())?;
-        Ok(Ascending::from_vec(tets))
+        copy_of(alloc, &self.own)
     }
 
-    /// The corners of the part's own tetrahedra, in n log n steps.
+    /// The corners of the part's own tetrahedra, in a list of their own.
     pub fn own_corners(&self, alloc: Global) -> Result<Ascending<Place>, Memory>
         ensures { IfOk result (λ places. places ≡ corner_set self.now.own) }
     {
-        corner_set(alloc, self.own.as_slice())
+        copy_of(alloc, &self.corners)
     }
 
-    /// The marks here that are on cells of the part's own tetrahedra, in n log n steps. Without
-    /// ghosts these are all marks, and are copied.
+    /// The marks here that are on cells of the part's own tetrahedra, in a list of their own.
     pub fn own_marks(&self, alloc: Global) -> Result<Ascending<Mark>, Memory>
         ensures { IfOk result (λ marks. marks ≡ marks_on self.now.own self.now.marks) }
     {
-        if self.ghosts.as_slice().is_empty() {
-            let marks = Vec::from_slice(alloc, self.marks.as_slice())?;
-            return Ok(Ascending::from_vec(marks));
-        }
-        self.marks_on(alloc, self.own.as_slice())
+        copy_of(alloc, &self.own_marks)
     }
 
     /// The marks here that are on cells of these tetrahedra, in n log n steps.
@@ -197,13 +218,14 @@ impl Store {
         ensures err { OnErr result (self.new ≡ self.old) }
     {
         let got = tets_got(alloc, ghosts)?;
-        let seen = all_of(alloc, self.own.as_slice(), got.as_slice())?;
-        let mut marks = self.own_marks(alloc)?.into_vec();
         let sent = marks_got(alloc, ghosts)?;
-        let joined = marks_on(alloc, seen.as_slice(), sent.as_slice())?;
-        marks.extend_from_slice(joined.as_slice())?;
+        let own = self.own.as_slice();
+        let own_marks = joined_on(alloc, &self.own_marks, own, sent.as_slice())?;
+        let others = tets_of(alloc, got.as_slice())?;
+        let marks = joined_on(alloc, &own_marks, others.as_slice(), sent.as_slice())?;
         self.ghosts = ghost_set(got);
-        self.marks = mark_set(marks);
+        self.marks = marks;
+        self.own_marks = own_marks;
         Ok(())
     }
 
@@ -212,10 +234,10 @@ impl Store {
         ensures ok { OnOk result (self.new ≡ with_marks self.old marks.now) }
         ensures err { OnErr result (self.new ≡ self.old) }
     {
-        let mut all = self.own_marks(alloc)?.into_vec();
-        let joined = marks_on(alloc, self.own.as_slice(), marks)?;
-        all.extend_from_slice(joined.as_slice())?;
-        self.marks = mark_set(all);
+        let all = joined_on(alloc, &self.own_marks, self.own.as_slice(), marks)?;
+        let own_marks = copy_of(alloc, &all)?;
+        self.marks = all;
+        self.own_marks = own_marks;
         Ok(())
     }
 
@@ -241,13 +263,17 @@ impl Store {
         ensures err { OnErr result (self.new ≡ self.old) }
     {
         let own = self.own_after(alloc, ended, added)?;
-        let mut joined = self.own_marks(alloc)?.into_vec();
+        let corners = corner_set(alloc, own.as_slice())?;
+        let mut joined = copy_of(alloc, &self.own_marks)?.into_vec();
         joined.extend_from_slice(added.marks.as_slice())?;
-        let kept = marks_on(alloc, own.as_slice(), joined.as_slice())?;
+        let marks = mark_set(marks_on(alloc, own.as_slice(), joined.as_slice())?);
+        let own_marks = copy_of(alloc, &marks)?;
         self.own = own;
         self.ghosts = Ascending::new(alloc);
-        self.marks = mark_set(kept);
+        self.marks = marks;
         self.shared = Vec::new(alloc);
+        self.corners = corners;
+        self.own_marks = own_marks;
         Ok(())
     }
 
@@ -255,14 +281,14 @@ impl Store {
     pub fn view(&self, alloc: Global) -> Result<View, Memory>
         ensures { IfOk result (λ view. view ≡ view_in self.now) }
     {
-        let own = Vec::from_slice(alloc, self.own.as_slice())?;
-        let ghosts = Vec::from_slice(alloc, self.ghosts.as_slice())?;
-        let marks = Vec::from_slice(alloc, self.marks.as_slice())?;
+        let own = copy_of(alloc, &self.own)?;
+        let ghosts = copy_of(alloc, &self.ghosts)?;
+        let marks = copy_of(alloc, &self.marks)?;
         Ok(View {
             part: self.part,
-            own: Ascending::from_vec(own),
-            ghosts: Ascending::from_vec(ghosts),
-            marks: Ascending::from_vec(marks),
+            own,
+            ghosts,
+            marks,
         })
     }
 }

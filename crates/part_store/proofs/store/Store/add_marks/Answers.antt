@@ -6,9 +6,10 @@ use Rattle.part_store.proofs.OwnMarks.{joined_own, named}
 use Rattle.part_store.proofs.store.Store.add_marks.Goals as goal
 
 pub invariant_of-self : goal.invariant_of-self
-invariant_of-self c _ =
+invariant_of-self c =
     let own = c.self.inside.own in
     let old = c.self.inside.marks in
     let marks = c.args.marks.now in
-    let made : c.mark_set.result ≡ ascending_of mark_cmp (marks_on own old ++ marks_on own marks) = search rules in
-    named own own c.mark_set.result (ascending_of mark_cmp (marks_on own old ++ marks_on own marks)) refl made (joined_own own old marks)
+    let kept : c.self.inside.own_marks ≡ marks_on own old = c.self.invariant.1 in
+    let made : c.in_ok-all.all ≡ ascending_of mark_cmp (marks_on own old ++ marks_on own marks) = search rules in
+    (c.self.invariant.0, named own own c.in_ok-all.all (ascending_of mark_cmp (marks_on own old ++ marks_on own marks)) c.in_ok-own_marks.own_marks refl made c.in_ok-own_marks.ensures (joined_own own old marks))
