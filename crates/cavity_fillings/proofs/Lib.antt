@@ -1,0 +1,4 @@
+pub mod Counts
+pub mod Made
+pub mod Apart
+pub mod Examples

@@ -1,0 +1,4 @@
+mod Found
+mod OneStar
+pub mod Stays
+pub mod Examples

@@ -1,0 +1,4 @@
+//! How many tetrahedra a pass leaves.
+#![tactic(auto)]
+
+pub mod laws;
