@@ -1,5 +1,5 @@
-mod Filled
-mod Delivering
-mod After
-mod Applying
-mod Next
+pub mod Filled
+pub mod Delivering
+pub mod After
+pub mod Applying
+pub mod Next

@@ -3,10 +3,12 @@
 
 mod balloting;
 mod cavities;
+mod labelling;
 mod proposing;
 mod winning;
 
 pub use balloting::ballots;
+pub use labelling::cavity_labels;
 pub use proposing::proposals;
 pub use winning::won;
 

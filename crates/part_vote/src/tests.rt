@@ -168,3 +168,20 @@ fn what_another_part_of_the_cavity_does_not_vote_for_is_not_won(rt: HostRuntime)
     assert!(rt; wins(rt.alloc(), 1, &[last_end()], &[]) == Ok(true));
     assert!(rt; wins(rt.alloc(), 2, &[first_end()], &[]) == Ok(true));
 }
+
+/// Whether the cavities of both collapses have tetrahedra of both parts.
+fn both_reach_both(alloc: Global) -> Result<bool, Memory> {
+    let ops = both(alloc)?;
+    let labels = cavity_labels(alloc, &store_0(alloc)?, ops.as_slice())?;
+    match labels.as_slice() {
+        [one, other] => Ok(
+            one.as_slice() == [0, 1].as_slice() && other.as_slice() == [0, 1].as_slice(),
+        ),
+        _ => Ok(false),
+    }
+}
+
+#[test]
+fn a_cavity_with_tetrahedra_of_two_parts_has_both_labels(rt: HostRuntime) {
+    assert!(rt; both_reach_both(rt.alloc()) == Ok(true));
+}

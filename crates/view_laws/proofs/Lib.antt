@@ -1,10 +1,10 @@
 pub mod Numbered
 pub mod MeshItems
-mod HomesBelow
-mod Counts
-mod Postings
-mod Showings
-mod OnGrid
+pub mod HomesBelow
+pub mod Counts
+pub mod Postings
+pub mod Showings
+pub mod OnGrid
 pub mod Following
 pub mod FirstRound
 pub mod Unions

@@ -2,4 +2,4 @@ pub mod Leads
 pub mod Legal
 pub mod Seen
 pub mod Votes
-mod Together
+pub mod Together
