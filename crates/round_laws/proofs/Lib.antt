@@ -1,0 +1,4 @@
+pub mod Phases
+pub mod Places
+pub mod Following
+pub mod AllRounds
