@@ -6,8 +6,9 @@ use Rattle.carrier.specs.Schedule.{Picks}
 use Rattle.directory.specs.Posting.{most_told}
 use Rattle.part_rules.specs.declared.course.Course.{Course}
 use Rattle.part_store.specs.Labelled.{LabelledMesh}
+use Rattle.round_laws.specs.Ends.{letters_in}
 use Rattle.size_marks.specs.Field.{Field}
-use Rattle.world_run.specs.Drawn.{Draws, EndsAlone, IfAllIsTold, drawn, letter_count, picks_left, used}
+use Rattle.world_run.specs.Drawn.{Draws, EndsAlone, IfAllIsTold, drawn, picks_left, used}
 use Rattle.world_run.specs.Meshes.{labelled_mesh}
 use Rattle.world_run.specs.Replay.{all_next, first_parts}
 use Rattle.world_run.specs.Rounds.{AreDone, IsWhole}
@@ -16,7 +17,8 @@ use Rattle.world_run.specs.declared.fault.RunFault.{RunFault}
 use Rattle.meshadapt.specs.declared.fetching.Accepted.{Accepted}
 use Rattle.meshadapt.specs.declared.fetching.Handout.{Handout as FetchedHandout}
 use Rattle.meshadapt.specs.declared.words.Job.{Job as Words}
-use Rattle.meshadapt.specs.OverParts.{StartComes, course_of}
+use Rattle.meshadapt.specs.Acts.{course_of}
+use Rattle.meshadapt.specs.OverParts.{StartComes}
 use Rattle.meshadapt.specs.Verdict.{Handout, Inputs}
 use Rattle.meshadapt.specs.Words.{Job}
 use Rattle.meshadapt.specs.steps.Asking.{IsInRange, asked}
@@ -33,14 +35,14 @@ module _ (accepted : Accepted) (fetched : FetchedHandout) (left : Picks) (s t : 
   pub record StartTells (course : Course) (labels : List ℕ) (result : Result WorldState RunFault) : Type 0 where
     pub told : IfSome s.given (λ before. RunTells (all_next (first_parts course (mesh_of labels))) 0 before t.given result)
     pub drawn : IfAllIsTold s (λ before. length accepted.mesh.tets ≤ most_told
-        → Draws 0 (mesh_of labels) (drawn course 0 (first_parts course (mesh_of labels)) (picks_left fetched.schedule)) 0 before t result)
-    pub alone : course.parts ≡ 1 → length accepted.mesh.tets ≤ most_told → EndsAlone 0 (mesh_of labels) (all_next (first_parts course (mesh_of labels))) s t result
+        → Draws course 0 (mesh_of labels) (drawn course 0 (first_parts course (mesh_of labels)) (picks_left fetched.schedule)) 0 before t result)
+    pub alone : course.parts ≡ 1 → length accepted.mesh.tets ≤ most_told → EndsAlone course 0 (mesh_of labels) (all_next (first_parts course (mesh_of labels))) s t result
 
   pub record IsStarted (course : Course) (labels : List ℕ) (world : WorldState) : Type 0 where
     pub tells : StartTells course labels (Ok world)
     pub is_whole : IsWhole course (mesh_of labels)
     pub done : AreDone course 1 world.parts
-    pub letters : world.letters ≡ letter_count course.parts
+    pub letters : world.letters ≡ letters_in course 0
     pub unspent : world.spent ≡ false
     pub picks : left ≡ used fetched.schedule world.letters
     pub faults : s.faults ≤ t.faults
@@ -58,10 +60,10 @@ module _ (words : Words) (accepted : Accepted) (fetched : FetchedHandout) (right
   handout = handout_of accepted.mesh fetched
 
   module _ (course : Course) (is : course ≡ course_of job inputs handout) (labels : List ℕ) (same : labels ≡ handout.labels) where
-    pub may_start : CanStart accepted.mesh labels course.parts course.grid
+    pub may_start : CanStart accepted.mesh labels course
     may_start =
-        subst (λ (ls : List ℕ). CanStart accepted.mesh ls course.parts course.grid) (sym same)
-        (subst (λ (x : Course). CanStart accepted.mesh handout.labels x.parts x.grid) (sym is) (can_start words accepted fetched right runs fits))
+        subst (λ (ls : List ℕ). CanStart accepted.mesh ls course) (sym same)
+        (subst (λ (x : Course). CanStart accepted.mesh handout.labels x) (sym is) (can_start words accepted fetched right runs fits field))
 
     module _ (left : Picks) (s t : Carried) where
       comes_so : (result : Result WorldState RunFault) → StartTells accepted fetched left s t (course_of job inputs handout) handout.labels result → StartComes job inputs handout s t result

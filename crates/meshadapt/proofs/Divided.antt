@@ -64,7 +64,7 @@ module _ (job : Job) (inputs : Inputs) (handout : Handout) (handed : inputs.hand
   arrived arrive = subst (LettersArrive c) handed arrive
 
   may_end : (worlds : ℕ → WorldState) (round : ℕ) → CameThrough job inputs handout worlds round c k → MayEnd job inputs inputs.handout round c k (ending_by worlds round)
-  may_end worlds round through = subst (λ (o : Option Handout). MayEnd job inputs o round c k (ending_by worlds round)) (sym handed) (worlds, through.comes, through.all, refl, through.meant)
+  may_end worlds round through = subst (λ (o : Option Handout). MayEnd job inputs o round c k (ending_by worlds round)) (sym handed) (worlds, through.comes, through.all, refl, through.meant, through.see)
 
   -- the line of a round could not be put
   line_unput : HaltsParted job inputs handout c k m t → LeavesUnput (Some job) (seen d c s) (seen e k t)

@@ -20,6 +20,7 @@ use Rattle.directory.specs.Posting.{most_told}
 use Rattle.mesh_check.specs.Accepted.{most_accepted_tets}
 use Rattle.one_mesh.specs.Holding.{set_of}
 use Rattle.part_phases.specs.Inboxes.{below}
+use Rattle.part_rules.specs.declared.course.Course.{Course}
 use Rattle.part_store.specs.Labelled.{tet_of}
 use Rattle.refined_views.specs.Refined.{without_labels}
 use Rattle.size_marks.specs.Field.{Field}
@@ -27,7 +28,7 @@ use Rattle.meshadapt.specs.declared.fetching.Accepted.{Accepted}
 use Rattle.meshadapt.specs.declared.fetching.Handout.{Handout as FetchedHandout}
 use Rattle.meshadapt.specs.declared.words.Division.{Division as DivisionWords}
 use Rattle.meshadapt.specs.declared.words.Job.{Job as Words}
-use Rattle.meshadapt.specs.Acts.{whole}
+use Rattle.meshadapt.specs.Acts.{course_of, whole}
 use Rattle.meshadapt.specs.Verdict.{Handout}
 use Rattle.meshadapt.specs.steps.Asking.{IfDivided, IsInRange, asked, division_asked}
 use Rattle.meshadapt.specs.steps.Fetching.{AreLabels, HandoutFits, IsRunnable, handout_of, inputs_over}
@@ -41,22 +42,18 @@ all_kept test (x ∷ xs) h =
     ap (λ (b : Bool). cond b (x ∷ filter test xs) (filter test xs)) both.0 ∙ ap (λ ys. x ∷ ys) (all_kept test xs both.1)
 
 -- ---- the division of the words
-pub record IsDivided (collapses swaps tets : ℕ) (fetched : FetchedHandout) : Type 0 where
+pub record IsDivided (tets : ℕ) (fetched : FetchedHandout) : Type 0 where
   pub some : 1 ≤ fetched.parts
   pub most : fetched.parts ≤ 64
-  pub no_collapses : collapses ≡ 0
-  pub no_swaps : swaps ≡ 0
   pub labels : AreLabels fetched.parts tets fetched.labels.items
 
-divided : (collapses swaps : ℕ) (division : Option DivisionWords) (tets : ℕ) (fetched : FetchedHandout) → IfDivided collapses swaps division → HandoutFits division tets (Some fetched) → IsDivided collapses swaps tets fetched
-divided collapses swaps None tets fetched over fits = absurd fits
-divided collapses swaps (Some division) tets fetched over fits =
+divided : (division : Option DivisionWords) (tets : ℕ) (fetched : FetchedHandout) → IfDivided division → HandoutFits division tets (Some fetched) → IsDivided tets fetched
+divided None tets fetched over fits = absurd fits
+divided (Some division) tets fetched over fits =
     let same : division.parts ≡ fetched.parts = sym fits.parts in
     record {
-      some = subst (λ (n : ℕ). 1 ≤ n) same over.parts.least;
-      most = subst (λ (n : ℕ). n ≤ 64) same over.parts.most;
-      no_collapses = over.no_collapses;
-      no_swaps = over.no_swaps;
+      some = subst (λ (n : ℕ). 1 ≤ n) same over.least;
+      most = subst (λ (n : ℕ). n ≤ 64) same over.most;
       labels = fits.labels;
     }
 
@@ -93,14 +90,16 @@ module _ {X Y : Type 0} (f : X → Y) (g : ℕ → Y) (xs : List X) (sees : (n :
 
 -- ---- a mesh that was fetched
 -- what the run of its parts requires
-pub record CanStart (mesh : MarkedMesh) (labels : List ℕ) (parts grid : ℕ) : Type 0 where
-  pub some : 1 ≤ parts
-  pub most : parts ≤ 64
-  pub grid_fits : grid ≤ 30
+pub record CanStart (mesh : MarkedMesh) (labels : List ℕ) (course : Course) : Type 0 where
+  pub some : 1 ≤ course.parts
+  pub most : course.parts ≤ 64
+  pub grid_fits : course.grid ≤ 30
+  pub collapses : course.collapse ≤ 16
+  pub swaps : course.swap ≤ 16
   pub each : length labels ≡ length mesh.tets
-  pub tets : are_on_grid grid mesh.tets ≡ true
-  pub marks : marks_are_on_grid grid mesh.marks ≡ true
-  pub below : All (λ label. label < parts) labels
+  pub tets : are_on_grid course.grid mesh.tets ≡ true
+  pub marks : marks_are_on_grid course.grid mesh.marks ≡ true
+  pub below : All (λ label. label < course.parts) labels
   pub few : length mesh.tets ≤ most_told
 
 less_told : (n : ℕ) → n ≤ most_accepted_tets → n ≤ most_told
@@ -113,14 +112,16 @@ module _ (words : Words) (accepted : Accepted) (fetched : FetchedHandout) (right
   abbrev handout : Handout
   handout = handout_of mesh fetched
 
-  over : IsDivided words.collapses words.swaps (length mesh.tets) fetched
-  over = divided words.collapses words.swaps words.division (length mesh.tets) fetched right.division fits
+  over : IsDivided (length mesh.tets) fetched
+  over = divided words.division (length mesh.tets) fetched right.division fits
 
-  pub can_start : CanStart mesh handout.labels handout.parts accepted.grid
-  can_start = record {
+  pub can_start : (field : Field) → CanStart mesh handout.labels (course_of (asked words) (inputs_over accepted field fetched) handout)
+  can_start field = record {
     some = over.some;
     most = over.most;
     grid_fits = runs.coarsest;
+    collapses = right.collapses;
+    swaps = right.swaps;
     each = over.labels.each;
     tets = runs.tets;
     marks = runs.marks;
@@ -145,8 +146,6 @@ module _ (words : Words) (accepted : Accepted) (fetched : FetchedHandout) (right
 
   pub may_run : (field : Field) → words.rounds ≤ accepted.grid → MayRun (asked words) (inputs_over accepted field fetched) handout
   may_run field finer = record {
-    no_collapses = over.no_collapses;
-    no_swaps = over.no_swaps;
     finer = finer;
     sound = runs.sound;
     mesh_is = mesh_is;

@@ -19,3 +19,4 @@ pub mod Divided
 pub mod Begun
 pub mod Kept
 pub mod WhenDue
+pub mod Headlines

@@ -1,8 +1,7 @@
 -- How parts come from round to round, and to a fault.
-use Rattle.std.proofs.Common.{◌≡◌, ℕ, zero, suc, ◌+◌, ◌*◌, ◌<◌, ◌≤◌, Bool, true, false, cond, List, [], Some, length, inl, inr, sym, subst, ap, ◌∙◌, add-one, arith}
+use Rattle.std.proofs.Common.{◌≡◌, ℕ, zero, suc, ◌+◌, ◌<◌, ◌≤◌, Bool, true, false, cond, List, [], Some, length, inl, inr, refl, sym, subst, ap, ◌∙◌, add-one, arith}
 use Rattle.std.specs.Prelude.{◌==◌, ◌∷◌, IfSome, Result, Ok, Err, slice_get}
 use Rattle.std.specs.List.{AllByRecursion}
-use Rattle.std.proofs.Math.Nat.{add-mul}
 use Rattle.std.proofs.lemmas.Bool.{cases_lt}
 use Rattle.std.proofs.lemmas.Bool.Decides.{nat_tests}
 use Rattle.std.proofs.lemmas.Option.{same_Some}
@@ -14,20 +13,26 @@ use Rattle.part_core.specs.Parts.{PartState}
 use Rattle.part_rules.specs.Ends.{most_tets}
 use Rattle.part_rules.specs.declared.course.Course.{Course}
 use Rattle.part_store.specs.Labelled.{LabelledMesh}
-use Rattle.refined_views.specs.Repeated.{refined_times}
-use Rattle.world_run.specs.Drawn.{Draws, EndsAlone, IfAllIsTold, drawn, letter_count, picks_left, used}
+use Rattle.one_mesh.specs.Adaptation.{Plan, StaysWithin}
+use Rattle.round_laws.specs.Ends.{letters_in}
+use Rattle.round_laws.specs.Truths.{StaysWithinUpTo}
+use Rattle.round_rules.specs.Stages.{passes_in}
+use Rattle.staged_meshes.specs.Laws.{plan_of as plan_in}
+use Rattle.staged_meshes.specs.Staged.{opened, passed_times}
+use Rattle.world_run.specs.Drawn.{Draws, EndsAlone, IfAllIsTold, IsFirstExcess, drawn, letters_upto, picks_left, used}
 use Rattle.world_run.specs.Replay.{all_next}
-use Rattle.world_run.specs.Rounds.{AreDone, HaveRefined, IsWhole, MayGoOn, SeeMesh}
+use Rattle.world_run.specs.Rounds.{AreDone, HaveAdapted, IsOnce, IsWhole, MayGoOn, SeeMesh}
 use Rattle.world_run.specs.Told.{HasCause, RunTells, WorldState}
 use Rattle.world_run.specs.declared.fault.RunFault.{RunFault}
 use Rattle.world_run.specs.declared.fault.RunFault.TheVariants as run
-use Rattle.meshadapt.specs.Acts.{whole, whole_after}
+use Rattle.meshadapt.specs.Acts.{course_of, whole}
 use Rattle.meshadapt.specs.Outcome.{MayFail}
-use Rattle.meshadapt.specs.OverParts.{AllArrive, ComesOf, RoundComes, StartComes, course_of, parts_at_first}
-use Rattle.meshadapt.specs.Verdict.{Handout, Inputs}
+use Rattle.meshadapt.specs.OverParts.{AllArrive, ComesOf, RoundComes, StartComes, parts_at_first}
+use Rattle.meshadapt.specs.Verdict.{Handout, Inputs, plan_of}
 use Rattle.meshadapt.specs.Words.{Job}
 use Rattle.meshadapt.specs.steps.OverRounds.{BreaksFirst, BreaksIn, HaveCome, MayRun, with_world}
-use Rattle.meshadapt.proofs.Meant.{first_past, union_is}
+use Rattle.meshadapt.proofs.Meant.{ends_with, first_past, is_once, round_within, union_is}
+use Rattle.meshadapt.proofs.Running.{one_within}
 
 -- ---- worlds, one for each round
 pub last_world : (worlds : ℕ → WorldState) (round : ℕ) (world : WorldState) → with_world worlds round world round ≡ world
@@ -53,11 +58,8 @@ used_both schedule m (suc n) = ap after_pick (used_both schedule m n) ∙ ap (us
     one_more : (m n : ℕ) → suc (m + n) ≡ m + suc n
     one_more m n = omega arith
 
-letters_once : (n : ℕ) → n ≡ (0 + 1) * n
-letters_once n = omega arith
-
-letters_more : (round each : ℕ) → (round + 1) * each + each ≡ (round + 1 + 1) * each
-letters_more round each = let both = add-mul (round + 1) 1 each in let one = letters_once each in omega (arith, both, one)
+letters_more : (course : Course) (round : ℕ) → letters_upto course round + letters_in course (round + 1) ≡ letters_upto course (round + 1)
+letters_more course round = subst (λ (n : ℕ). letters_upto course round + letters_in course n ≡ letters_upto course n) (sym (add-one round)) refl
 
 -- ---- a count that has risen since, and one that had not fallen before
 rose_since : (a b c : ℕ) → a ≤ b → Rose b c → Rose a c
@@ -93,19 +95,36 @@ module _ (job : Job) (inputs : Inputs) (handout : Handout) (may : MayRun job inp
   abbrev course : Course
   course = course_of job inputs handout
 
+  abbrev plan : Plan
+  plan = plan_of job inputs
+
   -- what is told of it where all letters arrive
   module _ (round taken : ℕ) (start : List PartState) (picks : List ℕ) (m t : Carried) (arrive : AllArrive handout.parts m) where
+    abbrev begins : LabelledMesh
+    begins = opened plan (whole handout) round
+
     abbrev DrawnSo : Result WorldState RunFault → Type 0
-    DrawnSo result = IfAllIsTold m (λ before. Draws round (whole_after inputs handout round) (drawn course round start picks) taken before t result)
+    DrawnSo result = IfAllIsTold m (λ before. Draws course round begins (drawn course round start picks) taken before t result)
 
     abbrev AloneSo : Result WorldState RunFault → Type 0
-    AloneSo result = handout.parts ≡ 1 → EndsAlone round (whole_after inputs handout round) (all_next start) m t result
+    AloneSo result = handout.parts ≡ 1 → EndsAlone course round begins (all_next start) m t result
 
-    few_so : (world : WorldState) → DrawnSo (Ok world) → AloneSo (Ok world) → length (whole_after inputs handout round).tets ≤ most_tets
-    few_so world draws ends = elim arrive [ inl one ↦ (ends one).1 | inr all ↦ (draws all.1.0 all.0 all.1.1).0 ]
+    within_so : (world : WorldState) → DrawnSo (Ok world) → AloneSo (Ok world) → StaysWithinUpTo course begins (passes_in course round + 1)
+    within_so world draws ends = elim arrive [ inl one ↦ (ends one).1 | inr all ↦ (draws all.1.0 all.0 all.1.1).0 ]
 
-    see_so : (world : WorldState) → DrawnSo (Ok world) → AloneSo (Ok world) → SeeMesh (whole_after inputs handout round) world.parts
+    see_so : (world : WorldState) → DrawnSo (Ok world) → AloneSo (Ok world) → SeeMesh (passed_times plan begins (passes_in course round)) world.parts
     see_so world draws ends = elim arrive [ inl one ↦ (ends one).3 | inr all ↦ (draws all.1.0 all.0 all.1.1).2 ]
+
+    -- they have adapted the mesh up to it
+    adapted_so : (world : WorldState) → DrawnSo (Ok world) → AloneSo (Ok world) → AreDone course (round + 1) world.parts → HaveAdapted course (whole handout) round world.parts
+    adapted_so world draws ends done =
+        let is = ends_with job inputs handout may round in
+        let few = within_so world draws ends (passes_in course round) (omega arith) in
+        record {
+          done = done;
+          few = subst (λ (mesh : LabelledMesh). length mesh.tets ≤ most_tets) is few;
+          see = subst (λ (mesh : LabelledMesh). SeeMesh mesh world.parts) is (see_so world draws ends);
+        }
 
     arrive_so : (world : WorldState) → DrawnSo (Ok world) → AllArrive handout.parts t
     arrive_so world draws = elim arrive [ inl one ↦ inl one | inr all ↦ let is = (draws all.1.0 all.0 all.1.1).1 in inr (is.held, (_, is.given)) ]
@@ -113,14 +132,12 @@ module _ (job : Job) (inputs : Inputs) (handout : Handout) (may : MayRun job inp
     -- the number of tetrahedra that it ends with, if it ends with one
     pub record IsOverAt (over stage count : ℕ) : Type 0 where
       pub round_is : over ≡ round
-      pub stage_is : stage ≡ 0
-      pub count_is : count ≡ length (whole_after inputs handout round).tets
-      pub past : most_tets < length (whole_after inputs handout round).tets
+      pub first : IsFirstExcess course round begins stage count
 
     over_so : (over stage count : ℕ) → DrawnSo (Err (run.Over over stage count)) → AloneSo (Err (run.Over over stage count)) → IsOverAt over stage count
     over_so over stage count draws ends = elim arrive [
-      | inl one ↦ let e = ends one in record { round_is = e.1; stage_is = e.2; count_is = e.3; past = e.4 }
-      | inr all ↦ let e = draws all.1.0 all.0 all.1.1 in record { round_is = e.0; stage_is = e.1; count_is = e.2; past = e.3 }
+      | inl one ↦ let e = ends one in record { round_is = e.1; first = e.2 }
+      | inr all ↦ let e = draws all.1.0 all.0 all.1.1 in record { round_is = e.0; first = e.1 }
     ]
 
     fails_so : (fault : RunFault) → ((over stage count : ℕ) → IsOverAt over stage count → MayFail job inputs (run.Over over stage count)) → DrawnSo (Err fault) → AloneSo (Err fault) → MayFail job inputs fault
@@ -131,24 +148,29 @@ module _ (job : Job) (inputs : Inputs) (handout : Handout) (may : MayRun job inp
     fails_so run.Memory over draws ends = tt
 
   -- ---- round 0
-  module _ (s t : Carried) where
-    refined_first : (world : WorldState) → StartComes job inputs handout s t (Ok world) → AreDone course 1 world.parts → AllArrive handout.parts s → HaveRefined course (whole handout) 0 world.parts
-    refined_first world comes done arrive = record {
-      done = done;
-      few = few_so 0 0 (parts_at_first job inputs handout) (picks_left handout.schedule) s t arrive world comes.drawn comes.alone;
-      see = see_so 0 0 (parts_at_first job inputs handout) (picks_left handout.schedule) s t arrive world comes.drawn comes.alone;
-    }
+  -- it has one stage, which leaves the mesh that was accepted
+  none_past : (stage count : ℕ) → IsFirstExcess course 0 (whole handout) stage count → ⊥
+  none_past zero count first = too_few (length (whole handout).tets) count may.few first.count_is first.much
+    where
+      too_few : (n count : ℕ) → n ≤ most_accepted_tets → count ≡ n → most_tets < count → ⊥
+      too_few n count few is much = absurd (omega (arith, few, is, much))
+  none_past (suc stage) count first = let upto = first.upto in absurd (omega (arith, upto))
 
-    pub came_first : (world : WorldState) (left : Picks) → StartComes job inputs handout s t (Ok world) → IsWhole course (whole handout) → AreDone course 1 world.parts → world.letters ≡ letter_count handout.parts → world.spent ≡ false
+  module _ (s t : Carried) where
+    adapted_first : (world : WorldState) → StartComes job inputs handout s t (Ok world) → AreDone course 1 world.parts → AllArrive handout.parts s → HaveAdapted course (whole handout) 0 world.parts
+    adapted_first world comes done arrive = adapted_so 0 0 (parts_at_first job inputs handout) (picks_left handout.schedule) s t arrive world comes.drawn comes.alone done
+
+    pub came_first : (world : WorldState) (left : Picks) → StartComes job inputs handout s t (Ok world) → IsWhole course (whole handout) → AreDone course 1 world.parts → world.letters ≡ letters_in course 0 → world.spent ≡ false
         → left ≡ used handout.schedule world.letters → s.faults ≤ t.faults → s.dry ≤ t.dry → HaveCome job inputs handout (λ _. world) 0 left s t
     came_first world left comes right done letters unspent picks faults dry = record {
       comes = comes;
-      all = λ n within. (done.all, letters ∙ (letters_once (letter_count handout.parts) ∙ ap (λ (k : ℕ). (k + 1) * letter_count handout.parts) (none_before n within)));
+      all = λ n within. (done.all, letters ∙ ap (letters_upto course) (none_before n within));
       is_whole = right;
       done = done;
       unspent = unspent;
       picks = picks;
-      refined = λ arrive n within. subst (λ (k : ℕ). HaveRefined course (whole handout) k world.parts) (none_before n within) (refined_first world comes done arrive);
+      have_adapted = λ arrive n within. subst (λ (k : ℕ). HaveAdapted course (whole handout) k world.parts) (none_before n within) (adapted_first world comes done arrive);
+      within = λ arrive. λ round stage least greatest last. absurd (omega (arith, least, greatest));
       arrive = λ arrive. arrive_so 0 0 (parts_at_first job inputs handout) (picks_left handout.schedule) s t arrive world comes.drawn;
       faults = faults;
       dry = dry;
@@ -164,14 +186,11 @@ module _ (job : Job) (inputs : Inputs) (handout : Handout) (may : MayRun job inp
         comes = comes;
         cause = cause;
         meant = λ arrive. (
-          fails_so 0 0 (parts_at_first job inputs handout) (picks_left handout.schedule) s t arrive fault (λ over stage count at. absurd (too_few (length (whole handout).tets) at.past may.few)) comes.drawn comes.alone,
+          fails_so 0 0 (parts_at_first job inputs handout) (picks_left handout.schedule) s t arrive fault (λ over stage count at. absurd (none_past stage count at.first)) comes.drawn comes.alone,
           λ before less. absurd (omega (arith, less)),
         );
       };
     }
-      where
-        too_few : (n : ℕ) → most_tets < n → n ≤ most_accepted_tets → ⊥
-        too_few n h k = absurd (omega (arith, h, k))
 
   -- ---- another round
   module _ (worlds : ℕ → WorldState) (round : ℕ) (left : Picks) (s m t : Carried) (come : HaveCome job inputs handout worlds round left s m) (more : round + 1 ≤ job.rounds) where
@@ -183,27 +202,24 @@ module _ (job : Job) (inputs : Inputs) (handout : Handout) (may : MayRun job inp
     ToldSo old result = IfSome m.given (λ before. RunTells (all_next old.parts) old.letters before t.given result)
 
     abbrev pub DrawsSo : WorldState → Result WorldState RunFault → Type 0
-    DrawsSo old result = IfAllIsTold m (λ before. (c : Course) (mesh : LabelledMesh) (n : ℕ) → IsWhole c mesh → HaveRefined c mesh n old.parts
-        → Draws (n + 1) (refined_times (n + 1) c.field mesh) (drawn c (n + 1) old.parts (picks_left left)) old.letters before t result)
+    DrawsSo old result = IfAllIsTold m (λ before. (c : Course) (mesh : LabelledMesh) (n : ℕ) → IsWhole c mesh → IsOnce mesh → HaveAdapted c mesh n old.parts
+        → Draws c (n + 1) (opened (plan_in c) mesh (n + 1)) (drawn c (n + 1) old.parts (picks_left left)) old.letters before t result)
 
     abbrev pub EndsSo : WorldState → Result WorldState RunFault → Type 0
-    EndsSo old result = (c : Course) (mesh : LabelledMesh) (n : ℕ) → c.parts ≡ 1 → IsWhole c mesh → HaveRefined c mesh n old.parts → EndsAlone (n + 1) (refined_times (n + 1) c.field mesh) (all_next old.parts) m t result
+    EndsSo old result = (c : Course) (mesh : LabelledMesh) (n : ℕ) → c.parts ≡ 1 → IsWhole c mesh → IsOnce mesh → HaveAdapted c mesh n old.parts
+        → EndsAlone c (n + 1) (opened (plan_in c) mesh (n + 1)) (all_next old.parts) m t result
 
     comes_so : (result : Result WorldState RunFault) → ToldSo old result → DrawsSo old result → EndsSo old result → RoundComes job inputs handout round old m t result
     comes_so result told draws ends = record {
       told = told;
-      drawn = λ refined before held given.
-          subst (λ (p : Picks). Draws (round + 1) (whole_after inputs handout (round + 1)) (drawn course (round + 1) old.parts (picks_left p)) old.letters before t result) come.picks
-          (draws before held given course (whole handout) round come.is_whole refined);
-      alone = λ one refined. ends course (whole handout) round one come.is_whole refined;
+      drawn = λ have before held given.
+          subst (λ (p : Picks). Draws course (round + 1) (opened plan (whole handout) (round + 1)) (drawn course (round + 1) old.parts (picks_left p)) old.letters before t result) come.picks
+          (draws before held given course (whole handout) round come.is_whole (is_once job inputs handout may) have);
+      alone = λ one have. ends course (whole handout) round one come.is_whole (is_once job inputs handout may) have;
     }
 
-    module _ (arrive : AllArrive handout.parts s) where
-      refined_before : HaveRefined course (whole handout) round old.parts
-      refined_before = come.refined arrive round (omega arith)
-
-      few_before : (before : ℕ) → before < round + 1 → length (whole_after inputs handout before).tets ≤ most_tets
-      few_before before less = (come.refined arrive before (omega (arith, less))).few
+    have_before : AllArrive handout.parts s → HaveAdapted course (whole handout) round old.parts
+    have_before arrive = come.have_adapted arrive round (omega arith)
 
     abbrev next_picks : List ℕ
     next_picks = picks_left (used handout.schedule old.letters)
@@ -213,15 +229,17 @@ module _ (job : Job) (inputs : Inputs) (handout : Handout) (may : MayRun job inp
       abbrev then : ℕ → WorldState
       then = with_world worlds (round + 1) new
 
-      -- it has refined the mesh once more
-      refined_next : AllArrive handout.parts s → HaveRefined course (whole handout) (round + 1) new.parts
-      refined_next arrive =
-          let refined = refined_before arrive in
-          record {
-            done = done;
-            few = few_so (round + 1) old.letters old.parts next_picks m t (come.arrive arrive) new (comes.drawn refined) (λ one. comes.alone one refined);
-            see = see_so (round + 1) old.letters old.parts next_picks m t (come.arrive arrive) new (comes.drawn refined) (λ one. comes.alone one refined);
-          }
+      -- it has adapted the mesh once more, and within the limit
+      have_next : AllArrive handout.parts s → HaveAdapted course (whole handout) (round + 1) new.parts
+      have_next arrive =
+          let have = have_before arrive in
+          adapted_so (round + 1) old.letters old.parts next_picks m t (come.arrive arrive) new (comes.drawn have) (λ one. comes.alone one have) done
+
+      within_next : AllArrive handout.parts s → StaysWithin plan (round + 1) inputs.mesh
+      within_next arrive =
+          let have = have_before arrive in
+          let within = within_so (round + 1) old.letters old.parts next_picks m t (come.arrive arrive) new (comes.drawn have) (λ one. comes.alone one have) in
+          one_within plan inputs.mesh round (come.within arrive) (round_within job inputs handout may round within)
 
       -- the world of a round up to it
       module _ (P : (n : ℕ) → WorldState → Type 0) (before : (n : ℕ) → n ≤ round → P n (worlds n)) (at : P (round + 1) new) where
@@ -248,46 +266,41 @@ module _ (job : Job) (inputs : Inputs) (handout : Handout) (may : MayRun job inp
           subst (λ (w : WorldState). ComesOf job inputs handout then (round + 1) s t (Ok w)) (sym (last_world worlds (round + 1) new))
           (subst (λ (n : ℕ). ComesOf job inputs handout then n s t (Ok new)) (sym (add-one round)) next)
 
-      came_next : (right : Picks) → new.letters ≡ old.letters + letter_count (length old.parts) → right ≡ used left (letter_count (length old.parts)) → new.spent ≡ false → m.faults ≤ t.faults → m.dry ≤ t.dry
+      came_next : (right : Picks) → new.letters ≡ old.letters + letters_in course (round + 1) → right ≡ used left (letters_in course (round + 1)) → new.spent ≡ false → m.faults ≤ t.faults → m.dry ≤ t.dry
           → HaveCome job inputs handout then (round + 1) right s t
       came_next right letters picks unspent faults dry =
           let here = come.all round (omega arith) in
-          let each : letter_count (length old.parts) ≡ letter_count handout.parts = ap letter_count here.0 in
-          let taken : new.letters ≡ (round + 1 + 1) * letter_count handout.parts = letters ∙ (ap (λ (n : ℕ). n + letter_count (length old.parts)) here.1 ∙ (ap (λ (n : ℕ). (round + 1) * letter_count handout.parts + n) each ∙ letters_more round (letter_count handout.parts))) in
+          let each : ℕ = letters_in course (round + 1) in
+          let taken : new.letters ≡ letters_upto course (round + 1) = letters ∙ (ap (λ (n : ℕ). n + each) here.1 ∙ letters_more course round) in
           let last : new ≡ then (round + 1) = sym (last_world worlds (round + 1) new) in
           let before_faults = come.faults in
           let before_dry = come.dry in
           record {
             comes = comes_last;
-            all = each_world (λ (n : ℕ) (w : WorldState). (length w.parts ≡ handout.parts) × (w.letters ≡ (n + 1) * letter_count handout.parts)) come.all (done.all, taken);
+            all = each_world (λ (n : ℕ) (w : WorldState). (length w.parts ≡ handout.parts) × (w.letters ≡ letters_upto course n)) come.all (done.all, taken);
             is_whole = come.is_whole;
             done = subst (λ (w : WorldState). AreDone course (round + 1 + 1) w.parts) last done;
             unspent = subst (λ (w : WorldState). w.spent ≡ false) last unspent;
-            picks = picks ∙ (ap (λ (p : Picks). used p (letter_count (length old.parts))) come.picks ∙ (used_both handout.schedule old.letters (letter_count (length old.parts)) ∙ ap (used handout.schedule) (sym letters ∙ ap (λ (w : WorldState). w.letters) last)));
-            refined = λ arrive. each_world (λ (n : ℕ) (w : WorldState). HaveRefined course (whole handout) n w.parts) (come.refined arrive) (refined_next arrive);
-            arrive = λ arrive. arrive_so (round + 1) old.letters old.parts next_picks m t (come.arrive arrive) new (comes.drawn (refined_before arrive));
+            picks = picks ∙ (ap (λ (p : Picks). used p each) come.picks ∙ (used_both handout.schedule old.letters each ∙ ap (used handout.schedule) (sym letters ∙ ap (λ (w : WorldState). w.letters) last)));
+            have_adapted = λ arrive. each_world (λ (n : ℕ) (w : WorldState). HaveAdapted course (whole handout) n w.parts) (come.have_adapted arrive) (have_next arrive);
+            within = within_next;
+            arrive = λ arrive. arrive_so (round + 1) old.letters old.parts next_picks m t (come.arrive arrive) new (comes.drawn (have_before arrive));
             faults = omega (arith, before_faults, faults);
             dry = omega (arith, before_dry, dry);
           }
 
     -- or to a fault
     module _ (fault : RunFault) (comes : RoundComes job inputs handout round old m t (Err fault)) where
-      over_is : AllArrive handout.parts s → (over stage count : ℕ) → (over ≡ round + 1) → (stage ≡ 0) → (count ≡ length (whole_after inputs handout (round + 1)).tets) → most_tets < length (whole_after inputs handout (round + 1)).tets
-          → MayFail job inputs (run.Over over stage count)
-      over_is arrive over stage count is none count_is past =
-          let first = first_past job inputs handout may (round + 1) count (omega arith) more count_is past (few_before arrive) in
-          subst (λ (k : ℕ). MayFail job inputs (run.Over k stage count)) (sym is) (subst (λ (k : ℕ). MayFail job inputs (run.Over (round + 1) k count)) (sym none) first)
-
       broke_next : HasCause {W = WorldState} m t (Err fault) → BreaksIn job inputs handout worlds (round + 1) s t fault
       broke_next cause =
           let next : ComesOf job inputs handout worlds (suc round) s t (Err fault) = (m, come.comes, comes) in
           record {
             comes = subst (λ (n : ℕ). ComesOf job inputs handout worlds n s t (Err fault)) (sym (add-one round)) next;
             cause = cause_since s m t fault come.faults come.dry cause;
-            meant = λ arrive. let refined = refined_before arrive in (
-              fails_so (round + 1) old.letters old.parts next_picks m t (come.arrive arrive) fault (λ over stage count at. over_is arrive over stage count at.round_is at.stage_is at.count_is at.past)
-                  (comes.drawn refined) (λ one. comes.alone one refined),
-              λ before less. union_is job inputs handout may come.is_whole before (worlds before).parts (come.refined arrive before (omega (arith, less))),
+            meant = λ arrive. let have = have_before arrive in (
+              fails_so (round + 1) old.letters old.parts next_picks m t (come.arrive arrive) fault
+                  (λ over stage count at. first_past job inputs handout may round over stage count more at.round_is at.first (come.within arrive)) (comes.drawn have) (λ one. comes.alone one have),
+              λ before less. union_is job inputs handout may come.is_whole before (worlds before).parts (come.have_adapted arrive before (omega (arith, less))),
             );
           }
 
@@ -299,13 +312,12 @@ module _ (job : Job) (inputs : Inputs) (handout : Handout) (may : MayRun job inp
           comes_so result (subst (λ (w : WorldState). ToldSo w result) back told) (subst (λ (w : WorldState). DrawsSo w result) back draws) (subst (λ (w : WorldState). EndsSo w result) back ends)
 
       pub came_after : (new : WorldState) → ToldSo found (Ok new) → DrawsSo found (Ok new) → EndsSo found (Ok new) → ((c : Course) (rounds : ℕ) → AreDone c rounds found.parts → AreDone c (rounds + 1) new.parts)
-          → (right : Picks) → new.letters ≡ found.letters + letter_count (length found.parts) → right ≡ used left (letter_count (length found.parts)) → new.spent ≡ false → m.faults ≤ t.faults → m.dry ≤ t.dry
-          → HaveCome job inputs handout (with_world worlds (round + 1) new) (round + 1) right s t
+          → (right : Picks) → ((c : Course) (rounds : ℕ) → AreDone c rounds found.parts → new.letters ≡ found.letters + letters_in c rounds) → ((c : Course) (rounds : ℕ) → AreDone c rounds found.parts → right ≡ used left (letters_in c rounds))
+          → new.spent ≡ false → m.faults ≤ t.faults → m.dry ≤ t.dry → HaveCome job inputs handout (with_world worlds (round + 1) new) (round + 1) right s t
       came_after new told draws ends done right letters picks unspent faults dry =
-          let back : found ≡ old = sym at in
-          let comes = told_at (Ok new) told draws ends in
-          let all_done : AreDone course (round + 1 + 1) new.parts = done course (round + 1) (subst (λ (w : WorldState). AreDone course (round + 1) w.parts) at come.done) in
-          came_next new comes all_done right (subst (λ (w : WorldState). new.letters ≡ w.letters + letter_count (length w.parts)) back letters) (subst (λ (w : WorldState). right ≡ used left (letter_count (length w.parts))) back picks) unspent faults dry
+          let there : AreDone course (round + 1) found.parts = subst (λ (w : WorldState). AreDone course (round + 1) w.parts) at come.done in
+          let taken : new.letters ≡ old.letters + letters_in course (round + 1) = letters course (round + 1) there ∙ ap (λ (w : WorldState). w.letters + letters_in course (round + 1)) (sym at) in
+          came_next new (told_at (Ok new) told draws ends) (done course (round + 1) there) right taken (picks course (round + 1) there) unspent faults dry
 
       pub broke_after : (fault : RunFault) → ToldSo found (Err fault) → DrawsSo found (Err fault) → EndsSo found (Err fault) → HasCause {W = WorldState} m t (Err fault) → BreaksIn job inputs handout worlds (round + 1) s t fault
       broke_after fault told draws ends cause = broke_next fault (told_at (Err fault) told draws ends) cause

@@ -14,9 +14,9 @@ use Rattle.world_run.specs.Told.{WorldState}
 use Rattle.world_run.specs.Union.{union_in}
 use Rattle.meshadapt.specs.declared.halt.Halt.{Halt}
 use Rattle.meshadapt.specs.declared.halt.Halt.TheVariants as halt
-use Rattle.meshadapt.specs.Acts.{IsMeant, bytes_of, ending_by, meshes_by, round_acts, whole_after}
+use Rattle.meshadapt.specs.Acts.{IsMeant, bytes_of, course_of, ending_by, meshes_by, round_acts, whole_after}
 use Rattle.meshadapt.specs.Outcome.{Puts, PutsFront}
-use Rattle.meshadapt.specs.OverParts.{AllArrive, course_of}
+use Rattle.meshadapt.specs.OverParts.{AllArrive}
 use Rattle.meshadapt.specs.Printed.{parts_done_line, round_line}
 use Rattle.meshadapt.specs.Verdict.{Handout, Inputs}
 use Rattle.meshadapt.specs.Words.{Job}
@@ -25,7 +25,7 @@ use Rattle.meshadapt.specs.steps.Running.{PutsLine}
 use Rattle.meshadapt.proofs.Acting.{one_line_more, same_rounds}
 use Rattle.meshadapt.proofs.HandedOut.{all_seen}
 use Rattle.meshadapt.proofs.InTurn.{front_after, puts_then}
-use Rattle.meshadapt.proofs.Meant.{stay_within, union_is}
+use Rattle.meshadapt.proofs.Meant.{union_is}
 use Rattle.meshadapt.proofs.PartRounds.{last_world, may_go_on, world_before}
 
 -- nothing was put
@@ -45,11 +45,11 @@ module _ (job : Job) (inputs : Inputs) (handout : Handout) (may : MayRun job inp
     is_meant : AllArrive handout.parts s → IsMeant job inputs handout round (ending_by worlds round)
     is_meant arrive =
         let parts : List PartState = (worlds round).parts in
-        let refined = come.refined arrive round (omega arith) in
+        let have = come.have_adapted arrive round (omega arith) in
         let counts = come.all round (omega arith) in
         record {
-          meshes = λ n within. union_is job inputs handout may come.is_whole n (worlds n).parts (come.refined arrive n within);
-          views = all_seen (λ (part : PartState). view_in part.standing.holds) (view_of (whole_after inputs handout round)) parts refined.see ∙ ap (λ (n : ℕ). map (view_of (whole_after inputs handout round)) (below n)) counts.0;
+          meshes = λ n within. union_is job inputs handout may come.is_whole n (worlds n).parts (come.have_adapted arrive n within);
+          views = all_seen (λ (part : PartState). view_in part.standing.holds) (view_of (whole_after job inputs handout round)) parts have.see ∙ ap (λ (n : ℕ). map (view_of (whole_after job inputs handout round)) (below n)) counts.0;
           line = ap₂ parts_done_line counts.0 counts.1;
         }
 
@@ -58,7 +58,8 @@ module _ (job : Job) (inputs : Inputs) (handout : Handout) (may : MayRun job inp
       comes = come.comes;
       all = come.all;
       meant = is_meant;
-      within = λ arrive. stay_within job inputs handout may round (λ n within. (come.refined arrive n within).few);
+      within = come.within;
+      see = λ arrive n within. (come.have_adapted arrive n within).see;
     }
 
   -- ---- from line to line

@@ -25,7 +25,7 @@ module _ (plan : Plan) (mesh : Batch) where
   back_one : (done : ℕ) → done + 1 - 1 ≡ done
   back_one done = omega arith
 
-  one_within : (done : ℕ) → StaysWithin plan done mesh → RoundStaysWithin plan (adapted plan done mesh) → StaysWithin plan (done + 1) mesh
+  pub one_within : (done : ℕ) → StaysWithin plan done mesh → RoundStaysWithin plan (adapted plan done mesh) → StaysWithin plan (done + 1) mesh
   one_within done within next = λ round stage least greatest last.
       elim (cases_lt round (done + 1)) [
         | inl less ↦ within round stage least (omega arith) last

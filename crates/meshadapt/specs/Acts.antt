@@ -1,5 +1,5 @@
 -- What a run does: the acts of one that meets no fault, in the order of work.
-use Rattle.std.specs.Prelude.{◌≡◌, ◌≤◌, ℕ, zero, suc, ◌+◌, ◌-◌, ◌*◌, min, List, [], ◌∷◌, ◌++◌, length, map}
+use Rattle.std.specs.Prelude.{◌≡◌, ◌≤◌, ℕ, zero, suc, ◌-◌, min, List, [], ◌∷◌, ◌++◌, length, map}
 use Rattle.std.specs.FinMap.{insert}
 use Rattle.ma_cells.specs.declared.batch.Batch.{Batch}
 use Rattle.ma_cells.specs.declared.view.View.{View}
@@ -10,8 +10,9 @@ use Rattle.one_mesh.specs.Adaptation.{adapted}
 use Rattle.part_phases.specs.Inboxes.{below}
 use Rattle.part_store.specs.Labelled.{LabelledMesh, view_of}
 use Rattle.part_store.specs.Stores.{view_in}
-use Rattle.refined_views.specs.Repeated.{refined_times}
-use Rattle.world_run.specs.Drawn.{letter_count}
+use Rattle.part_rules.specs.declared.course.Course.{Course}
+use Rattle.staged_meshes.specs.Staged.{adapted_times}
+use Rattle.world_run.specs.Drawn.{letters_upto}
 use Rattle.world_run.specs.Meshes.{labelled_mesh}
 use Rattle.world_run.specs.Told.{WorldState}
 use Rattle.world_run.specs.Union.{union_in}
@@ -97,18 +98,22 @@ ending_by worlds rounds = record {
   line = parts_done_line (length (worlds rounds).parts) (worlds rounds).letters;
 }
 
+-- what its parts have in common
+abbrev pub course_of : Job → Inputs → Handout → Course
+course_of job inputs handout = record { parts = handout.parts; grid = inputs.grid; collapse = job.collapses; swap = job.swaps; field = inputs.field }
+
 -- the mesh of a job, with the labels of its parts, and after a round
 abbrev pub whole : Handout → LabelledMesh
 whole handout = labelled_mesh handout.mesh handout.labels
 
-abbrev pub whole_after : Inputs → Handout → ℕ → LabelledMesh
-whole_after inputs handout round = refined_times round inputs.field (whole handout)
+abbrev pub whole_after : Job → Inputs → Handout → ℕ → LabelledMesh
+whole_after job inputs handout round = adapted_times (plan_of job inputs) (whole handout) round
 
 -- that an end over parts is the one that is meant after so many rounds: after each the mesh as one part makes it, then each part's view of the last, and as many letters as the rounds have
 pub record IsMeant (job : Job) (inputs : Inputs) (handout : Handout) (rounds : ℕ) (ending : Ending) : Type 0 where
   pub meshes : (round : ℕ) → round ≤ rounds → ending.meshes round ≡ adapted_by job inputs round
-  pub views : ending.views ≡ map (view_of (whole_after inputs handout rounds)) (below handout.parts)
-  pub line : ending.line ≡ parts_done_line handout.parts ((rounds + 1) * letter_count handout.parts)
+  pub views : ending.views ≡ map (view_of (whole_after job inputs handout rounds)) (below handout.parts)
+  pub line : ending.line ≡ parts_done_line handout.parts (letters_upto (course_of job inputs handout) rounds)
 
 -- all of a run that ends so: the line of the mesh, the rounds, the files, and the last line
 abbrev pub acts_to : Ending → Job → Inputs → List Act

@@ -6,4 +6,5 @@ pub mod OverParts
 pub mod Outcome
 pub mod Codes
 pub mod Geometry
+pub mod Headline
 pub mod steps

@@ -8,12 +8,13 @@ use Rattle.ma_io.specs.Store.{HoldsFront}
 use Rattle.job_files.specs.declared.fault.JobFault.TheVariants as job_faults
 use Rattle.mesh_check.specs.declared.fault.MeshFault.TheVariants as faults
 use Rattle.carrier.specs.Carried.{Carried}
+use Rattle.world_run.specs.Rounds.{SeeMesh}
 use Rattle.world_run.specs.Told.{HasCause, WorldState}
 use Rattle.world_run.specs.declared.fault.RunFault.{RunFault}
 use Rattle.world_run.specs.declared.fault.RunFault.TheVariants as run
 use Rattle.msh_read.specs.declared.fault.MshFault.TheVariants.{At, Memory as NoMemory}
 use Rattle.one_mesh.specs.Adaptation.{IsFirstPast, StaysWithin}
-use Rattle.meshadapt.specs.Acts.{Act, PutLine, StoreFile, Ending, IsMeant, Output, acts_to, adapted_by, begun, bytes_of, ending_by, files_with, meshes_by, outputs, plain_ending, rounds_among}
+use Rattle.meshadapt.specs.Acts.{Act, PutLine, StoreFile, Ending, IsMeant, Output, acts_to, adapted_by, begun, bytes_of, course_of, ending_by, files_with, meshes_by, outputs, plain_ending, rounds_among, whole_after}
 use Rattle.meshadapt.specs.OverParts.{AllArrive, AreAll, ComesOf}
 use Rattle.meshadapt.specs.declared.status.Refusal.{Refusal}
 use Rattle.meshadapt.specs.declared.status.Refusal.TheVariants.{Missing, TooLong, Mesh, Accept, Partition, Size, Schedule, Rounds}
@@ -61,12 +62,12 @@ abbrev pub PutsLast : List ℕ → List ℕ → Received → Received → Type 0
 PutsLast bytes line s t = Puts (bytes ++ line) s t ⊎ PutsFront bytes line s t
 
 -- ---- parts
--- that a run may have come through so many rounds, and ends so if it has no more: without parts by the mesh alone; over parts by what these have come to, which is what is meant where all letters arrive
+-- that a run may have come through so many rounds, and ends so if it has no more: without parts by the mesh alone; over parts by what these have come to, which is what is meant where all letters arrive. After each round each part then sees its own of the mesh as it is to be
 abbrev pub MayEnd : Job → Inputs → Option Handout → (rounds : ℕ) → Carried → Carried → Ending → Type 0
 MayEnd job inputs None rounds s t ending = ending ≡ plain_ending job inputs
 MayEnd job inputs (Some handout) rounds s t ending =
-    (worlds : ℕ → WorldState) × ComesOf job inputs handout worlds rounds s t (Ok (worlds rounds)) × AreAll handout rounds worlds × (ending ≡ ending_by worlds rounds)
-    × (AllArrive handout.parts s → IsMeant job inputs handout rounds ending)
+    (worlds : ℕ → WorldState) × ComesOf job inputs handout worlds rounds s t (Ok (worlds rounds)) × AreAll (course_of job inputs handout) rounds worlds × (ending ≡ ending_by worlds rounds)
+    × (AllArrive handout.parts s → IsMeant job inputs handout rounds ending) × (AllArrive handout.parts s → (round : ℕ) → round ≤ rounds → SeeMesh (whole_after job inputs handout round) (worlds round).parts)
 
 -- that a run which comes to its act behind so many others is at this round: at its line, or past all rounds
 abbrev pub IsAt : Job → (before round : ℕ) → Type 0

@@ -26,6 +26,10 @@ pub record Job : Type 0 where
   pub swaps : ℕ
   pub out : List ℕ
 
+-- how many rounds may be run
+abbrev pub most_rounds : ℕ
+most_rounds = 30
+
 -- a number from low to high
 abbrev pub in_range : ℕ → ℕ → ℕ → Option ℕ
 in_range low high n = if nat_le low n && nat_le n high then Some n else None
@@ -91,9 +95,9 @@ division_of words = do
   schedule ← value_of (codes "--schedule") partition.1
   Some (record { parts = parts.0; partition = partition.0; schedule = schedule.0 }, schedule.1)
 
--- what stands behind the mesh, the sizes and the division: --rounds N --collapse C --swap W --out X, with at most so many rounds and passes
-unfoldable pub job_with : List ℕ → Sizes → Option Division → (rounds passes : ℕ) → List (List ℕ) → Option Job
-job_with mesh sizes division most_rounds most_passes words = do
+-- what stands behind the mesh, the sizes and the division: --rounds N --collapse C --swap W --out X
+unfoldable pub job_with : List ℕ → Sizes → Option Division → List (List ℕ) → Option Job
+job_with mesh sizes division words = do
   rounds ← number_of (codes "--rounds") 0 most_rounds words
   collapse ← number_of (codes "--collapse") 0 most_passes rounds.1
   swap ← number_of (codes "--swap") 0 most_passes collapse.1
@@ -106,15 +110,15 @@ plain_job_of words = do
   options ← after_flag (codes "--plain") words
   mesh ← value_of (codes "--mesh") options
   sizes ← sizes_of mesh.1
-  job_with mesh.0 sizes.0 None 30 most_passes sizes.1
+  job_with mesh.0 sizes.0 None sizes.1
 
--- the words --mesh M --uniform H --parts P --partition F --schedule Q --rounds N --collapse 0 --swap 0 --out X, likewise. Parts make no passes yet
+-- the words --mesh M --uniform H --parts P --partition F --schedule Q --rounds N --collapse C --swap W --out X, likewise
 unfoldable pub divided_job_of : List (List ℕ) → Option Job
 divided_job_of words = do
   mesh ← value_of (codes "--mesh") words
   sizes ← sizes_of mesh.1
   division ← division_of sizes.1
-  job_with mesh.0 sizes.0 (Some division.0) 30 0 division.1
+  job_with mesh.0 sizes.0 (Some division.0) division.1
 
 -- the job that the words ask for
 unfoldable pub job_of : List (List ℕ) → Option Job

@@ -5,7 +5,7 @@ ghost use Rattle.msh_write.specs.Text.{nodes_of};
 ghost use Rattle.world_run.specs.Rounds.{MayGoOn};
 ghost use Rattle.world_run.specs.Told.{WorldState};
 ghost use Rattle.world_run.specs.Union.{union_in};
-ghost use Rattle.meshadapt.specs.OverParts.{course_of};
+ghost use Rattle.meshadapt.specs.Acts.{course_of};
 ghost use Rattle.meshadapt.specs.Printed.{round_line};
 ghost use Rattle.meshadapt.specs.Verdict.{Handout as HandedOut, Inputs};
 ghost use Rattle.meshadapt.specs.Words.{Job as Asked};

@@ -4,7 +4,7 @@ ghost use Rattle.std.specs.Fmt.{decimal};
 ghost use Rattle.msh_write.specs.PartText.{part_text};
 ghost use Rattle.one_mesh.specs.Holding.{set_of};
 ghost use Rattle.part_store.specs.Stores.{view_in};
-ghost use Rattle.meshadapt.specs.OverParts.{course_of};
+ghost use Rattle.meshadapt.specs.Acts.{course_of};
 ghost use Rattle.meshadapt.specs.Printed.{mesh_line};
 ghost use Rattle.meshadapt.specs.steps.Asking.{IsInRange, asked};
 ghost use Rattle.meshadapt.specs.steps.Fetching.{HandoutFits, IsRunnable, handout_of, inputs_over};

@@ -1,5 +1,6 @@
 // Whole runs over files in memory.
 mod parts;
+mod passes;
 
 use crate::status::Status;
 use crate::top::meshadapt;
@@ -549,7 +550,7 @@ fn a_size_file_is_refused_behind_the_mesh_and_before_the_rounds(
 
 /// Words of a run over parts of another form, those of a run in each line.
 const OTHER_PARTS: &str =
-    "--mesh m.msh --uniform 4 --parts 0 --partition one.part --schedule q --rounds 0 --collapse 0 --swap 0 --out x\n--mesh m.msh --uniform 4 --parts 65 --partition one.part --schedule q --rounds 0 --collapse 0 --swap 0 --out x\n--mesh m.msh --uniform 4 --parts 1 --schedule q --partition one.part --rounds 0 --collapse 0 --swap 0 --out x\n--mesh m.msh --uniform 4 --parts 1 --partition one.part --schedule q --rounds 31 --collapse 0 --swap 0 --out x\n--mesh m.msh --uniform 4 --parts 1 --partition one.part --schedule q --rounds 1 --collapse 1 --swap 0 --out x\n--mesh m.msh --uniform 4 --parts 1 --partition one.part --schedule q --rounds 1 --collapse 0 --swap 1 --out x\n";
+    "--mesh m.msh --uniform 4 --parts 0 --partition one.part --schedule q --rounds 0 --collapse 0 --swap 0 --out x\n--mesh m.msh --uniform 4 --parts 65 --partition one.part --schedule q --rounds 0 --collapse 0 --swap 0 --out x\n--mesh m.msh --uniform 4 --parts 1 --schedule q --partition one.part --rounds 0 --collapse 0 --swap 0 --out x\n--mesh m.msh --uniform 4 --parts 1 --partition one.part --schedule q --rounds 31 --collapse 0 --swap 0 --out x\n--mesh m.msh --uniform 4 --parts 1 --partition one.part --schedule q --rounds 1 --collapse 17 --swap 0 --out x\n--mesh m.msh --uniform 4 --parts 1 --partition one.part --schedule q --rounds 1 --collapse 0 --swap 17 --out x\n";
 
 #[test]
 fn other_words_over_parts_are_answered_with_usage(rt: HostRuntime) -> Result<(), Fail> {
@@ -657,14 +658,17 @@ fn a_second_pass_collapses_what_the_first_one_left(rt: HostRuntime) -> Result<()
     Ok(())
 }
 
+/// Three tetrahedra around an edge, and the two that are left when it is swapped.
+const RING: [&str; 2] = ["0 0 0;8 8 8;8 8 0;8 0 8;0 8 8", "1 2 3 4;1 2 4 5;1 2 5 3"];
+
+const SWAPPED: [&str; 2] = ["0 0 0;0 8 8;8 0 8;8 8 0;8 8 8", "1 2 3 4;2 3 4 5"];
+
 #[test]
 fn three_tetrahedra_around_an_edge_are_swapped_for_two(rt: HostRuntime) -> Result<(), Fail> {
     let words = "--plain --mesh m.msh --uniform 16 --rounds 1 --collapse 0 --swap 1 --out x";
-    let before = ["0 0 0;8 8 8;8 8 0;8 0 8;0 8 8", "1 2 3 4;1 2 4 5;1 2 5 3"];
     let lines =
         "mesh: tets 3 nodes 5 marks 0 loose 0\nround 1: tets 2 nodes 5 worst 390451572\ndone: plain\n";
-    let after = ["0 0 0;0 8 8;8 0 8;8 8 0;8 8 8", "1 2 3 4;2 3 4 5"];
-    assert!(rt; is_adapted(&rt, rt.alloc(), words, before, lines, after)?);
+    assert!(rt; is_adapted(&rt, rt.alloc(), words, RING, lines, SWAPPED)?);
     Ok(())
 }
 

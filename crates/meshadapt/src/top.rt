@@ -3,6 +3,7 @@ ghost use Rattle.std.specs.Prelude.{◌≡◌, ◌≤◌, None, Some, map, strin
 ghost use Rattle.carrier.specs.Carried.{Carried};
 ghost use Rattle.one_mesh.specs.Adaptation.{most_passes};
 ghost use Rattle.meshadapt.specs.Geometry.{GeometryIsKept};
+ghost use Rattle.meshadapt.specs.Headline.{Headline};
 ghost use Rattle.meshadapt.specs.Outcome.{AcceptedIsDone, Leaves, LeavesCarrier, RefusalIsAnswered, TooManyIsAnswered, UsageIsAnswered, seen};
 ghost use Rattle.meshadapt.specs.Words.{job_of};
 ghost use Rattle.meshadapt.specs.steps.Asking.{IsInRange, asked};
@@ -115,7 +116,8 @@ fn run<D: Depot, C: Carrier, S: Sink>(
 /// Where the words tell of parts, the mesh is handed out to them by the partition file. They speak
 /// by letters that go over the carrier, of which those are taken next that the schedule file picks.
 /// In each round a part refines its own of the mesh by itself, and then learns from the others what
-/// lies beside it. What each part sees at the end is stored too. Parts make no passes yet.
+/// lies beside it. In each pass the parts agree by letters on what is made, and learn it anew. What
+/// each part sees at the end is stored too.
 pub fn meshadapt<D: Depot, C: Carrier, S: Sink>(
     alloc: Global,
     words: &[String],
@@ -137,6 +139,10 @@ pub fn meshadapt<D: Depot, C: Carrier, S: Sink>(
 
     // What the stored mesh keeps of the geometry of the accepted one.
     ensures geometry { GeometryIsKept result (job_of (map string_bytes words.now)) (seen (D.held depot.old) (C.carried carrier.old) (S.received out.old)) (seen (D.held depot.new) (C.carried carrier.new) (S.received out.new)) }
+
+    // Over parts a run that is done leaves what one part would have left, whatever the partition and
+    // the order of letters.
+    ensures headline { Headline result (job_of (map string_bytes words.now)) (seen (D.held depot.old) (C.carried carrier.old) (S.received out.old)) (seen (D.held depot.new) (C.carried carrier.new) (S.received out.new)) }
 {
     run(alloc, words, depot, carrier, out)
 }

@@ -13,7 +13,7 @@ const MOST_PARTS: u32 = 64;
 /// How many rounds may be run.
 const MOST_ROUNDS: u32 = 30;
 
-/// How many passes of a kind a round may have that isn't over parts.
+/// How many passes of a kind a round may have.
 const MOST_PASSES: u32 = 16;
 
 /// The sizes that edges are to have.
@@ -47,7 +47,7 @@ pub struct Job<'a> {
     pub division: Option<Division<'a>>,
     /// How many rounds are run, at most 30.
     pub rounds: u32,
-    /// How many collapse passes a round has, at most 16, and none over parts.
+    /// How many collapse passes a round has, at most 16.
     pub collapses: u32,
     /// How many swap passes it has, likewise.
     pub swaps: u32,
@@ -165,27 +165,22 @@ fn division_of<'a>(words: &'a [String]) -> Option<(Division<'a>, &'a [String])>
     Some((division, rest))
 }
 
-/// The job with what stands behind the mesh, the sizes and the division, with at most so many rounds
-/// and passes.
+/// The job with what stands behind the mesh, the sizes and the division.
 #[tactic(auto, unfolding(crate::specs::Words::job_with))]
 fn job_with<'a>(
     mesh: &'a str,
     sizes: Sizes<'a>,
     division: Option<Division<'a>>,
-    most: (u32, u32),
     words: &'a [String],
 ) -> Option<Job<'a>>
-    requires rounds { most.0 ≤ 30 }
-    requires passes { most.1 ≤ most_passes }
-    ensures value { option_map (λ job. asked job) result ≡ job_with mesh.now (sizes_asked sizes.entry) (option_map division_asked division.entry) most.0 most.1 (map string_bytes words.now) }
+    ensures value { option_map (λ job. asked job) result ≡ job_with mesh.now (sizes_asked sizes.entry) (option_map division_asked division.entry) (map string_bytes words.now) }
     ensures sizes { IfSome result (λ job. job.sizes ≡ sizes.entry) }
     ensures division { IfSome result (λ job. job.division ≡ division.entry) }
-    ensures rounds { IfSome result (λ job. job.rounds ≤ most.0) }
-    ensures passes { IfSome result (λ job. (job.collapses ≤ most.1) × (job.swaps ≤ most.1)) }
+    ensures passes { IfSome result (λ job. (job.collapses ≤ most_passes) × (job.swaps ≤ most_passes)) }
 {
-    let (rounds, options) = number_of("--rounds", 0, most.0, words)?;
-    let (collapses, options) = number_of("--collapse", 0, most.1, options)?;
-    let (swaps, options) = number_of("--swap", 0, most.1, options)?;
+    let (rounds, options) = number_of("--rounds", 0, MOST_ROUNDS, words)?;
+    let (collapses, options) = number_of("--collapse", 0, MOST_PASSES, options)?;
+    let (swaps, options) = number_of("--swap", 0, MOST_PASSES, options)?;
     let (out, options) = value_of("--out", options)?;
     if options.is_empty() {
         Some(Job {
@@ -211,7 +206,7 @@ fn plain_job_of<'a>(words: &'a [String]) -> Option<Job<'a>>
     let options = after_flag("--plain", words)?;
     let (mesh, options) = value_of("--mesh", options)?;
     let (sizes, options) = sizes_of(options)?;
-    job_with(mesh, sizes, None, (MOST_ROUNDS, MOST_PASSES), options)
+    job_with(mesh, sizes, None, options)
 }
 
 /// The job of a mesh that is handed out to parts.
@@ -223,7 +218,7 @@ fn divided_job_of<'a>(words: &'a [String]) -> Option<Job<'a>>
     let (mesh, options) = value_of("--mesh", words)?;
     let (sizes, options) = sizes_of(options)?;
     let (division, options) = division_of(options)?;
-    job_with(mesh, sizes, Some(division), (MOST_ROUNDS, 0), options)
+    job_with(mesh, sizes, Some(division), options)
 }
 
 /// The job that the words ask for. None where they are of neither form, in its order.

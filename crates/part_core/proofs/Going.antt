@@ -10,8 +10,7 @@ use Rattle.part_phases.specs.Phases.{after_entering, answer_after, begins_at, be
 use Rattle.part_phases.specs.Standings as phases
 use Rattle.part_phases.proofs.Kept.{opened}
 use Rattle.part_rules.specs.Begins.{begins_with}
-use Rattle.part_rules.specs.Rounds.{rules}
-use Rattle.part_rules.specs.declared.course.Course.{Course}
+use Rattle.round_rules.specs.Rounds.{rules}
 use Rattle.part_store.specs.Stores.{StoreState}
 use Rattle.part_core.specs.Parts.{Answers, PartState, is_over, sent}
 use Rattle.part_core.specs.steps.Beginning.{holding, opening}
@@ -42,35 +41,44 @@ entering first mid new step before between after is letters gone =
           ∙ ap (λ l. before ++ l) (sym (map-append sent (letters_of r s) (gone_on r (phases_left r inside) inside).letters)),
     )
 
+-- the last phase of the round in which a part stands
+abbrev pub last_of : PartState → ℕ
+last_of part = (rules part.course).last part.standing.round
+
 -- with a phase left there is one more to end
-one_left : (course : Course) (s : phases.Standing StoreState Body) → s.phase ≤ 2 → phases_left (rules course) s ≡ suc (2 - s.phase)
-one_left course s le = omega arith
+one_left : (last phase : ℕ) → phase ≤ last → (last + 1) - phase ≡ suc (last - phase)
+one_left last phase le = omega arith
 
 -- what comes of a part whose phase has ended
-pub ends : (old new : PartState) → old.standing.phase ≤ 2 → is_complete (rules old.course) old.standing ≡ true → Ended None old new → (b : Bool) → (old.standing.phase == 2) ≡ b
+pub ends : (old new : PartState) → old.standing.phase ≤ last_of old → is_complete (rules old.course) old.standing ≡ true → Ended None old new → (b : Bool) → (old.standing.phase == last_of old) ≡ b
     → gone_on (rules old.course) (phases_left (rules old.course) old.standing) old.standing
-    ≡ if_complete true (Ok new.standing.holds) b old.standing (moved (rules old.course) old.standing) (λ h. after_entering (rules old.course) (moved (rules old.course) old.standing h) (gone_on (rules old.course) (2 - old.standing.phase) (entered (rules old.course) (moved (rules old.course) old.standing h))))
+    ≡ if_complete true (Ok new.standing.holds) b old.standing (moved (rules old.course) old.standing) (λ h. after_entering (rules old.course) (moved (rules old.course) old.standing h) (gone_on (rules old.course) (last_of old - old.standing.phase) (entered (rules old.course) (moved (rules old.course) old.standing h))))
 ends old new le full ended b at =
     let r = rules old.course in
     let s = old.standing in
-    ap (λ n. gone_on r n s) (one_left old.course s le) ∙ opened r (2 - s.phase) s b new.standing.holds full ended.0 at
+    ap (λ n. gone_on r n s) (one_left (last_of old) s.phase le) ∙ opened r (last_of old - s.phase) s b new.standing.holds full ended.0 at
+
+-- where one more phase follows, the last is not reached, and one phase less is left
+not_last : (phase last : ℕ) → phase + 1 ≤ last → (phase == last) ≡ false
+not_last phase last le = grind (arith, nat_tests)
+
+one_less : (last phase : ℕ) → (last + 1) - (phase + 1) ≡ last - phase
+one_less last phase = omega arith
 
 -- a phase has ended, the next is entered, and the part goes on
-pub goes_on : (old next mid new : PartState) (step : Step) (before between after : List Letter) → old.standing.phase ≤ 2 → is_complete (rules old.course) old.standing ≡ true → Ended None old next
-    → next.standing.phase ≤ 2 → mid ≡ standing_at next (entered (rules next.course) next.standing) → between ≡ before ++ map sent (letters_of (rules next.course) next.standing)
+pub goes_on : (old next mid new : PartState) (step : Step) (before between after : List Letter) → old.standing.phase ≤ last_of old → is_complete (rules old.course) old.standing ≡ true → Ended None old next
+    → next.standing.phase ≤ last_of next → mid ≡ standing_at next (entered (rules next.course) next.standing) → between ≡ before ++ map sent (letters_of (rules next.course) next.standing)
     → Gone step mid new between after → Gone (step_after next.standing.phase step) old new before after
 goes_on old next mid new step before between after le full ended within is letters gone =
     let r = rules old.course in
     let s = old.standing in
     let at : phases.Standing StoreState Body = moved r s next.standing.holds in
-    let phase : next.standing.phase ≡ s.phase + 1 = ap (λ (p : PartState). p.standing.phase) ended.1 in
-    let more : (s.phase == 2) ≡ false = grind (arith, nat_tests) in
-    let left : phases_left r at ≡ 2 - s.phase = omega arith in
+    let there : s.phase + 1 ≤ last_of old = subst (λ (p : PartState). p.standing.phase ≤ last_of p) ended.1 within in
     let all = entering next mid new step before between after is letters gone in
     let due : Matches (step_after next.standing.phase step) (after_entering r at (gone_on r (phases_left r at) (entered r at))) (standing_at old at) new before after
     = subst (λ (n : PartState). Matches (step_after next.standing.phase step) (after_entering (rules n.course) n.standing (gone_on (rules n.course) (phases_left (rules n.course) n.standing) (entered (rules n.course) n.standing))) n new before after) ended.1 all in
-    subst (λ d. Matches (step_after next.standing.phase step) d old new before after) (sym (ends old next le full ended false more))
-    (subst (λ k. Matches (step_after next.standing.phase step) (after_entering r at (gone_on r k (entered r at))) old new before after) left due)
+    subst (λ d. Matches (step_after next.standing.phase step) d old new before after) (sym (ends old next le full ended false (not_last s.phase (last_of old) there)))
+    (subst (λ k. Matches (step_after next.standing.phase step) (after_entering r at (gone_on r k (entered r at))) old new before after) (one_less (last_of old) s.phase) due)
 
 -- the part holds what it begins the round with, its first phase is entered, and the part has gone on
 pub came_first : (old held first mid gone : PartState) (round : ℕ) (step : Step) (before empty between letters after : List Letter)

@@ -1,15 +1,14 @@
 -- A part of a run, and what its calls answer and leave.
-use Rattle.std.specs.Prelude.{◌≡◌, ◌≤◌, ◌<◌, ℕ, Bool, true, false, List, [], ◌∷◌, ◌++◌, map, Option, Some, None, Result, Ok, Err}
+use Rattle.std.specs.Prelude.{◌≡◌, ◌≤◌, ◌<◌, ℕ, Bool, true, false, List, [], ◌++◌, map, Result, Ok, Err}
 use Rattle.ma_geom.specs.Coordinates.{Coordinates}
 use Rattle.ma_cells.specs.Cells.{CellMark}
 use Rattle.ma_cells.specs.Tetrahedron.{Tetrahedron}
 use Rattle.letters.specs.declared.letter.Body.{Body}
 use Rattle.letters.specs.declared.letter.Letter.{Letter}
-use Rattle.part_phases.specs.Inboxes.{Inbox}
 use Rattle.part_phases.specs.Standings as phases
-use Rattle.part_rules.specs.Rounds.{rules}
 use Rattle.part_rules.specs.declared.course.Course.{Course}
 use Rattle.part_store.specs.Stores.{StoreState, started}
+use Rattle.round_rules.specs.Rounds.{rules}
 use Rattle.part_core.specs.declared.answers.Step.{Step}
 use Rattle.part_core.specs.declared.answers.Step.TheVariants as steps
 use Rattle.part_core.specs.declared.answers.PartFault.{PartFault}
@@ -22,12 +21,7 @@ pub record PartState : Type 0 where
   pub begun : ℕ
   pub spent : Bool
 
--- the inboxes that are kept, of which there is one at most
-abbrev pub kept_in : Option (Inbox Body) → List (Inbox Body)
-kept_in None = []
-kept_in (Some inbox) = inbox ∷ []
-
--- a part before its first round: it has these tetrahedra and marks, and stands past the last phase
+-- a part before its first round: it has these tetrahedra and marks, and stands past the last phase of a round without passes
 abbrev pub first_part : ℕ → Course → List Tetrahedron → List CellMark → PartState
 first_part me course own marks = record {
   course = course;

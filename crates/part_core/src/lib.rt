@@ -5,6 +5,7 @@ mod answers;
 mod ends;
 mod inbox;
 mod part;
+mod passes;
 
 pub use answers::{PartFault, Step};
 pub use part::Part;

@@ -2,7 +2,7 @@
 ghost use Rattle.std.specs.Prelude.{◌≡◌, ◌+◌, ◌-◌, ◌<◌, ◌≤◌, nat_lt, IfOk};
 ghost use Rattle.part_core.specs.Parts.{Answers, IsMemory, IsRunning, Leaves, MayBegin, first_part, taken};
 ghost use Rattle.part_phases.specs.Phases.{begun, handed};
-ghost use Rattle.part_rules.specs.Rounds.{rules};
+ghost use Rattle.round_rules.specs.Rounds.{rules};
 
 use crate::answers::{PartFault, Step};
 use crate::inbox::Inbox;
@@ -11,6 +11,7 @@ use ma_cells::{Label, Mark, Tet};
 use ma_geom::Memory;
 use part_rules::{Course, first_off};
 use part_store::Store;
+use round_rules::last_phase;
 use std::alloc::Global;
 use std::marker::Model;
 
@@ -29,20 +30,21 @@ pub struct Part {
     store: Store,
     current: Inbox,
     early: Inbox,
-    kept: Option<Inbox>,
+    kept: Vec<Inbox>,
     begun: u32,
     spent: bool,
 }
 
 impl Model for Part {
-    ghost use Rattle.std.specs.Prelude.{◌≡◌, ◌+◌, ◌<◌, ◌≤◌, None};
-    ghost use Rattle.part_core.specs.Parts.{PartState, kept_in};
+    ghost use Rattle.std.specs.Prelude.{◌+◌, ◌<◌, ◌≤◌};
+    ghost use Rattle.part_core.specs.Parts.{PartState};
+    ghost use Rattle.round_rules.specs.Rounds.{rules};
 
     ghost Value = { PartState };
 
-    ghost view = { λ p. record { course = p.course; standing = record { me = p.me; round = p.round; phase = p.phase; holds = p.store; now = p.current; early = p.early; kept = kept_in p.kept }; begun = p.begun; spent = p.spent } };
+    ghost view = { λ p. record { course = p.course; standing = record { me = p.me; round = p.round; phase = p.phase; holds = p.store; now = p.current; early = p.early; kept = p.kept.items }; begun = p.begun; spent = p.spent } };
 
-    ghost invariant = { λ p. (p.me < p.course.parts) × (p.course.parts ≤ 64) × (p.course.grid ≤ 30) × (p.round ≤ p.course.grid) × (p.phase ≤ 3) × (p.phase ≡ 0 → p.kept ≡ None) × (p.begun ≤ p.course.grid + 1) };
+    ghost invariant = { λ p. (p.me < p.course.parts) × (p.course.parts ≤ 64) × (p.course.grid ≤ 30) × (p.course.collapse ≤ 16) × (p.course.swap ≤ 16) × (p.round ≤ p.course.grid) × (p.phase ≤ (rules p.course).last p.round + 1) × (p.begun ≤ p.course.grid + 1) };
 }
 
 impl Part {
@@ -57,6 +59,8 @@ impl Part {
         requires me { me < course.parts }
         requires parts { course.parts ≤ 64 }
         requires grid { course.grid ≤ 30 }
+        requires collapses { course.collapse ≤ 16 }
+        requires swaps { course.swap ≤ 16 }
         ensures { IfOk result (λ part. part ≡ first_part me course own.now marks.now) }
     {
         let store = Store::start(alloc, me, own, marks)?;
@@ -68,7 +72,7 @@ impl Part {
             store,
             current: Inbox::new(alloc),
             early: Inbox::new(alloc),
-            kept: None,
+            kept: Vec::new(alloc),
             begun: 0,
             spent: false,
         })
@@ -164,6 +168,14 @@ impl Part {
         self.round
     }
 
+    /// The last phase of that round.
+    pub(crate) fn last_phase(&self) -> u32
+        ensures value { result ≡ (rules self.now.course).last self.now.standing.round }
+        ensures few { result ≤ 226 }
+    {
+        last_phase(&self.course, self.round)
+    }
+
     /// How many rounds it has begun. Takes no memory.
     pub fn begun(&self) -> u32
         ensures { result ≡ self.now.begun }
@@ -175,6 +187,6 @@ impl Part {
     pub fn is_done(&self) -> bool
         ensures { result ≡ nat_lt ((rules self.now.course).last self.now.standing.round) self.now.standing.phase }
     {
-        self.phase > 2
+        self.phase > self.last_phase()
     }
 }

@@ -26,6 +26,8 @@ fn course(alloc: Global, parts: u8, size: u32) -> Course
     requires { is_size size ≡ true }
     ensures parts { result.parts ≡ parts }
     ensures grid { result.grid ≡ 3 }
+    ensures collapses { result.collapse ≡ 0 }
+    ensures swaps { result.swap ≡ 0 }
 {
     Course {
         parts,
@@ -40,7 +42,9 @@ fn course(alloc: Global, parts: u8, size: u32) -> Course
 fn started(alloc: Global, course: Course) -> Result<Part, Memory>
     requires parts { (1 ≤ course.parts) × (course.parts ≤ 64) }
     requires grid { course.grid ≡ 3 }
-    ensures { IfOk result (λ part. (part.spent ≡ false) × (part.begun ≡ 0) × (part.standing.phase ≡ 3) × (part.course.grid ≡ 3)) }
+    requires collapses { course.collapse ≡ 0 }
+    requires swaps { course.swap ≡ 0 }
+    ensures { IfOk result (λ part. (part.spent ≡ false) × (part.standing.round ≡ 0) × (part.begun ≡ 0) × (part.standing.phase ≡ 3) × (part.course.grid ≡ 3)) }
 {
     let [z, y, x] = face();
     let tet = Tet::new([at(0, 0, 0), x, y, z], 0, 0);

@@ -1,21 +1,24 @@
 -- One part ends the round by itself, or finds too many tetrahedra as it begins it.
-use Rattle.std.proofs.Common.{◌≡◌, ◌≤◌, ◌<◌, ℕ, List, [], ◌∷◌, ◌++◌, Option, Some, None, Ok, Err, is_ok, length, inl, inr, refl, sym, ap, subst, ◌∙◌, arith}
+use Rattle.std.proofs.Common.{◌≡◌, ◌+◌, ◌-◌, ◌*◌, ℕ, List, [], ◌∷◌, ◌++◌, Option, Some, None, Ok, Err, is_ok, length, inl, inr, refl, sym, ap, subst, ◌∙◌, arith}
 use Rattle.std.specs.Prelude.{map, Result}
 use Rattle.std.specs.List.{AllByRecursion}
-use Rattle.std.proofs.lemmas.Bool.{cases_lt, false≢true}
+use Rattle.std.proofs.lemmas.Bool.{false≢true}
 use Rattle.ma_cells.specs.Cells.{CellMark}
 use Rattle.carrier.specs.Carried.{Carried}
 use Rattle.letters.specs.declared.letter.Body.{Body}
 use Rattle.letters.specs.declared.letter.Letter.{Letter}
 use Rattle.part_core.specs.Parts.{PartState, taken}
 use Rattle.part_phases.specs.Standings as phases
-use Rattle.part_rules.specs.Ends.{most_tets}
-use Rattle.part_rules.specs.Rounds.{rules}
+use Rattle.round_rules.specs.Rounds.{rules}
 use Rattle.part_rules.specs.declared.course.Course.{Course}
 use Rattle.part_store.specs.Labelled.{LabelledMesh}
 use Rattle.part_store.specs.Stores.{StoreState}
 use Rattle.phase_laws.specs.Truth.{IsTrueLetter, Truth}
-use Rattle.world_run.specs.Drawn.{EndsAlone, letter_count}
+use Rattle.round_laws.specs.Ends.{letters_in}
+use Rattle.round_rules.specs.Stages.{passes_in}
+use Rattle.staged_meshes.specs.Laws.{plan_of}
+use Rattle.staged_meshes.specs.Staged.{passed_times}
+use Rattle.world_run.specs.Drawn.{EndsAlone}
 use Rattle.world_run.specs.Replay.{all_next, first_waiting}
 use Rattle.world_run.specs.Rounds.{SeeMesh}
 use Rattle.world_run.specs.Told.{WorldState}
@@ -24,10 +27,10 @@ use Rattle.world_run.specs.declared.fault.RunFault.TheVariants.{BadLetter, Link,
 use Rattle.world_run.specs.steps.Beginning.{AreUnspent, letters_next}
 use Rattle.world_run.specs.steps.Drawing.{BeginRight, GoesAlong, RestsAlone, opening}
 use Rattle.world_run.specs.steps.Turns.{Rests}
-use Rattle.world_run.proofs.Closing.{BeginOn, drawing_at, few_begin, few_is, many_begin, many_is, not_done, sees_mesh}
+use Rattle.world_run.proofs.Closing.{BeginOn, IsPast, StaysWithin, drawing_at, few_begin, few_is, first_excess, low_phase, many_begin, many_is, not_done, sees_mesh, by_sevens, which}
 use Rattle.world_run.proofs.Excesses.{in_err}
 use Rattle.world_run.proofs.Handings.{none_waits}
-use Rattle.world_run.proofs.Opening.{opening_right, opens, standings_are}
+use Rattle.world_run.proofs.Opening.{courses_are, opening_right, opens, standings_are}
 use Rattle.world_run.proofs.Turning.{turn_ends}
 
 -- a carrier that tells all, and nothing happened with it
@@ -78,48 +81,58 @@ module _ (course : Course) (mesh : LabelledMesh) (carried : ℕ → List CellMar
   abbrev pub RestsSo : Result ℕ RunFault → Type 0
   RestsSo result = (truth : Truth StoreState Body) → BeginRight course truth default parts → RestsAlone course truth default parts new old now result
 
-  few_err : length mesh.tets ≤ most_tets → (fault : RunFault) → RestsAlone course (few_is course mesh carried round default parts on) default parts new old now (Err fault) → EndsAlone round mesh (all_next parts) old now (Err fault)
-  few_err few Link rests = rests
-  few_err few (BadLetter bytes) rests = rests
-  few_err few (Starved part phase) rests = rests
-  few_err few (Over over stage count) rests = absurd (false≢true (sym (ap is_ok rests.1.2.2)))
-  few_err few Memory rests = tt
+  few_err : (fault : RunFault) → RestsAlone course (few_is course mesh carried round default parts on) default parts new old now (Err fault) → EndsAlone course round mesh (all_next parts) old now (Err fault)
+  few_err Link rests = rests
+  few_err (BadLetter bytes) rests = rests
+  few_err (Starved part phase) rests = rests
+  few_err (Over over stage count) rests = absurd (false≢true (sym (ap is_ok rests.1.2.2)))
+  few_err Memory rests = tt
 
-  many_err : most_tets < length mesh.tets → (fault : RunFault) → RestsAlone course (many_is course mesh carried round default parts on) default parts new old now (Err fault) → EndsAlone round mesh (all_next parts) old now (Err fault)
-  many_err many Link rests = rests
-  many_err many (BadLetter bytes) rests = rests
-  many_err many (Starved part phase) rests = rests
-  many_err many (Over over stage count) rests = (rests.0, rests.1.0, rests.1.1, sym (ap in_err rests.1.2.2), many)
-  many_err many Memory rests = tt
+  many_err : (first : ℕ) → IsPast course mesh round first → (fault : RunFault) → RestsAlone course (many_is course mesh carried round default parts on first) default parts new old now (Err fault)
+      → EndsAlone course round mesh (all_next parts) old now (Err fault)
+  many_err first past Link rests = rests
+  many_err first past (BadLetter bytes) rests = rests
+  many_err first past (Starved part phase) rests = rests
+  many_err first past (Over over stage count) rests =
+      (rests.0, rests.1.0, first_excess course mesh carried round default parts on first past stage count (rests.1.1 ∙ by_sevens first) (sym (ap in_err rests.1.2.2)))
+  many_err first past Memory rests = tt
 
-  pub alone_err : (fault : RunFault) → RestsSo (Err fault) → EndsAlone round mesh (all_next parts) old now (Err fault)
-  alone_err fault so = elim (cases_lt most_tets (length mesh.tets)) as (λ _. EndsAlone round mesh (all_next parts) old now (Err fault)) [
-    | inl many ↦ many_err many fault (so (many_is course mesh carried round default parts on) (many_begin course mesh carried round default parts on many))
-    | inr few ↦ few_err few fault (so (few_is course mesh carried round default parts on) (few_begin course mesh carried round default parts on few))
+  pub alone_err : (fault : RunFault) → RestsSo (Err fault) → EndsAlone course round mesh (all_next parts) old now (Err fault)
+  alone_err fault so = elim (which course mesh carried round default parts on) [
+    | inr past ↦ many_err past.0 past.1 fault (so (many_is course mesh carried round default parts on past.0) (many_begin course mesh carried round default parts on past.0 past.1))
+    | inl few ↦ few_err fault (so (few_is course mesh carried round default parts on) (few_begin course mesh carried round default parts on few))
   ]
 
   module _ (letters : ℕ) (so : RestsSo (Ok letters)) where
-    never : most_tets < length mesh.tets → ⊥
-    never many =
-        let truth = many_is course mesh carried round default parts on in
-        let begin = many_begin course mesh carried round default parts on many in
+    never : (first : ℕ) → IsPast course mesh round first → ⊥
+    never first past =
+        let truth = many_is course mesh carried round default parts on first in
+        let begin = many_begin course mesh carried round default parts on first past in
         let rests = so truth begin in
         let right = opening_right course truth default parts begin in
         let some = on.shared.parts in
         let all = right.0 in
-        not_done default (all_next parts) (opening course truth default parts).parts (standings_are course round parts on.courses on.rounds) (omega (arith, all, some)) (right.1.stands 0 some).upto rests.2
+        let stands = right.1.stands 0 some in
+        not_done course round default (all_next parts) (opening course truth default parts).parts (standings_are course round parts on.courses on.rounds) (omega (arith, all, some)) (courses_are course round parts on.courses)
+        (ap (λ s. s.round) stands.is) (low_phase course mesh carried round default parts on first _ past.upto stands.upto) rests.2
 
-    sees : length mesh.tets ≤ most_tets → SeeMesh mesh (all_next parts)
+    sees : StaysWithin course mesh carried round default parts on → SeeMesh (passed_times (plan_of course) mesh (passes_in course round)) (all_next parts)
     sees few =
-        let no_letters : letter_count course.parts ≡ 0 = ap letter_count one in
+        let no_letters : letters_in course round ≡ 0 = none_in one in
         sees_mesh course mesh carried round default parts on few [] (all_next parts)
         (standings_are course round parts on.courses on.rounds ∙ ap (λ n. (drawing_at course mesh carried round default parts on n []).parts) (sym no_letters))
+      where
+        no_times : (n : ℕ) → 1 * (n * (1 - 1)) ≡ 0
+        no_times n = omega arith
 
-    pub alone_ok : (world : WorldState) → world.parts ≡ new → EndsAlone round mesh (all_next parts) old now (Ok world)
-    alone_ok world parts_are = elim (cases_lt most_tets (length mesh.tets)) as (λ _. (now ≡ old) × (length mesh.tets ≤ most_tets) × (world.parts ≡ all_next parts) × SeeMesh mesh world.parts) [
-      | inl many ↦ absurd (never many)
-      | inr few ↦
+        none_in : course.parts ≡ 1 → letters_in course round ≡ 0
+        none_in is = ap (λ p. p * (((rules course).last round + 1) * (p - 1))) is ∙ no_times ((rules course).last round + 1)
+
+    pub alone_ok : (world : WorldState) → world.parts ≡ new → EndsAlone course round mesh (all_next parts) old now (Ok world)
+    alone_ok world parts_are = elim (which course mesh carried round default parts on) [
+      | inr past ↦ absurd (never past.0 past.1)
+      | inl few ↦
           let rests = so (few_is course mesh carried round default parts on) (few_begin course mesh carried round default parts on few) in
           let is : world.parts ≡ all_next parts = parts_are ∙ rests.1 in
-          (rests.0, few, is, subst (SeeMesh mesh) (sym is) (sees few))
+          (rests.0, few, is, subst (SeeMesh (passed_times (plan_of course) mesh (passes_in course round))) (sym is) (sees few))
     ]

@@ -7,7 +7,7 @@ use Rattle.letters.specs.declared.letter.Body.{Body}
 use Rattle.letters.specs.declared.letter.Letter.{Letter}
 use Rattle.part_core.specs.Parts.{PartState}
 use Rattle.part_phases.specs.Standings.{Standing}
-use Rattle.part_rules.specs.Rounds.{rules}
+use Rattle.round_rules.specs.Rounds.{rules}
 use Rattle.part_rules.specs.declared.course.Course.{Course}
 use Rattle.part_store.specs.Stores.{StoreState}
 use Rattle.phase_laws.specs.Drawing.{Drawing, IsRight, turn, turns}

@@ -9,11 +9,11 @@ use Rattle.letters.specs.declared.letter.Body.{Body}
 use Rattle.letters.specs.declared.letter.Letter.{Letter}
 use Rattle.part_core.specs.Parts.{PartState, sent}
 use Rattle.part_phases.proofs.Owed.{round_begun_owes_all_letters}
-use Rattle.part_rules.specs.Rounds.{rules}
+use Rattle.round_rules.specs.Rounds.{rules}
 use Rattle.part_rules.specs.declared.course.Course.{Course}
 use Rattle.part_store.specs.Stores.{StoreState}
 use Rattle.phase_laws.specs.Drawing.{Drawing, all_begun, turns}
-use Rattle.world_run.specs.Drawn.{IsDrawn, drawn, letter_count, picks_left, spelled}
+use Rattle.world_run.specs.Drawn.{IsDrawn, drawn, picks_left, spelled}
 use Rattle.world_run.specs.Replay.{all_next, next_outcome}
 use Rattle.world_run.specs.Rounds.{AreDone}
 use Rattle.world_run.specs.Told.{WorldState}
@@ -75,7 +75,7 @@ module _ (course : Course) (rounds : ℕ) (parts : List PartState) (done : AreDo
       → IsDrawn (drawn course rounds parts (picks_left schedule)) so_far before now world
   is_drawn new old now schedule before so_far letters world held given tracks parts_are letters_are =
       let drew = tracks before first_drawing (tracks_next old before held given) in
-      let same : turns (rules course) (owed_all (all_next parts)) (picks_left schedule) first_drawing ≡ drawn course rounds parts (picks_left schedule) = ap (λ n. turns (rules course) n (picks_left schedule) first_drawing) (owed_next-done course rounds parts done ∙ ap letter_count done.all) in
+      let same : turns (rules course) (owed_all (all_next parts)) (picks_left schedule) first_drawing ≡ drawn course rounds parts (picks_left schedule) = ap (λ n. turns (rules course) n (picks_left schedule) first_drawing) (owed_next-done course rounds parts done) in
       let counted = drew.3 ∙ ap (λ n. n + letters) none_drawn in
       let end = turns (rules course) (owed_all (all_next parts)) (picks_left schedule) first_drawing in
       record {

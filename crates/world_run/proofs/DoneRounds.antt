@@ -11,7 +11,9 @@ use Rattle.part_rules.specs.declared.course.Course.{Course}
 use Rattle.part_store.specs.Labelled.{LabelledMesh, own_of}
 use Rattle.phase_laws.proofs.Staying.{same_some}
 use Rattle.view_laws.proofs.FirstRound.{length-below, number_at}
-use Rattle.world_run.specs.Drawn.{letter_count}
+use Rattle.round_laws.specs.Ends.{letters_in}
+use Rattle.round_rules.specs.Rounds.{rules}
+use Rattle.round_rules.specs.Stages.{last_phase, passes_in}
 use Rattle.world_run.specs.Replay.{all_done, all_next, first_parts, is_done}
 use Rattle.world_run.specs.Rounds.{AreDone, HasDone, MayGoOn}
 use Rattle.world_run.specs.Told.{WorldState}
@@ -45,13 +47,13 @@ module _ (course : Course) (rounds : ℕ) (parts : List PartState) (are : AreDon
   pub may-begin : AllByRecursion (λ part. part.begun ≤ part.course.grid) parts → MayAllBegin parts
   may-begin finer = all-from_at _ parts (λ q part there.
       let has = (done-at q part there).1 in
-      record { unspent = has.unspent; over = ltb-true 2 part.standing.phase has.done; next = refl; on_grid = all-at (λ p. p.begun ≤ p.course.grid) parts q part finer there })
+      record { unspent = has.unspent; over = ltb-true ((rules part.course).last part.standing.round) part.standing.phase has.done; next = refl; on_grid = all-at (λ p. p.begun ≤ p.course.grid) parts q part finer there })
 
-  pub of-course : AreOf course parts
-  of-course = all-done _ (λ q part within has. let number = has.number_is in (has.course_is, omega (arith, number, within)))
+  pub of-course : AreOf course rounds parts
+  of-course = all-done _ (λ q part within has. let number = has.number_is in (has.course_is, omega (arith, number, within), has.begun))
 
-  pub owed_next-done : owed_all (all_next parts) ≡ letter_count (length parts)
-  owed_next-done = owed_next course parts of-course ∙ ap (λ n. length parts * (3 * (n - 1))) (sym are.all)
+  pub owed_next-done : owed_all (all_next parts) ≡ letters_in course rounds
+  owed_next-done = owed_next course rounds parts of-course ∙ ap (λ n. n * (((rules course).last rounds + 1) * (course.parts - 1))) are.all
 
   -- ---- once they have done one more
   module _ (new : List PartState) (kept : AreKept (all_next parts) new) (done : all_done new ≡ true) (unspent : AreUnspent new) where
@@ -115,17 +117,23 @@ more_by : (a b c : ℕ) → a ≤ b → c * a ≤ c * b
 more_by a b zero upto = omega arith
 more_by a b (suc c) upto = let rest = more_by a b c upto in omega (arith, rest, upto)
 
-pub few_letters : (n : ℕ) → n ≤ 64 → letter_count n ≤ 64 * (3 * 63)
-few_letters n upto =
-    let less : 3 * (n - 1) ≤ 3 * 63 = omega (arith, upto) in
-    let one = more_by (3 * (n - 1)) (3 * 63) n less in
-    omega (arith, upto, one)
+few_passes : (course : Course) (round : ℕ) → course.collapse ≤ 16 → course.swap ≤ 16 → last_phase (passes_in course round) + 1 ≤ 227
+few_passes course zero collapses swaps = omega arith
+few_passes course (suc round) collapses swaps = omega (arith, collapses, swaps)
 
-pub few_next : (course : Course) (rounds : ℕ) (parts : List PartState) → AreDone course rounds parts → course.parts ≤ 64 → owed_all (all_next parts) < 2 ^ 64
-few_next course rounds parts are few =
-    let all = are.all in
+pub few_letters : (course : Course) (round : ℕ) → course.parts ≤ 64 → course.collapse ≤ 16 → course.swap ≤ 16 → letters_in course round ≤ 64 * (227 * 63)
+few_letters course round upto collapses swaps =
+    let phases = last_phase (passes_in course round) + 1 in
+    let one = more_by (course.parts - 1) 63 phases (omega (arith, upto)) in
+    let few = few_passes course round collapses swaps in
+    let sent : phases * (course.parts - 1) ≤ 227 * 63 = omega (arith, one, few) in
+    let all = more_by (phases * (course.parts - 1)) (227 * 63) course.parts sent in
+    omega (arith, upto, all)
+
+pub few_next : (course : Course) (rounds : ℕ) (parts : List PartState) → AreDone course rounds parts → course.parts ≤ 64 → course.collapse ≤ 16 → course.swap ≤ 16 → owed_all (all_next parts) < 2 ^ 64
+few_next course rounds parts are few collapses swaps =
     let owed = owed_next-done course rounds parts are in
-    let most = few_letters (length parts) (omega (arith, all, few)) in
+    let most = few_letters course rounds few collapses swaps in
     omega (arith, owed, most)
 
 -- ---- another round
@@ -151,5 +159,5 @@ may_go_on course rounds world are finer unspent = record { unspent = unspent; fi
 pub next-of : (course : Course) (rounds : ℕ) (first : List PartState) → AreDone course rounds first → (parts new : List PartState) → parts ≡ first → AreKept (all_next parts) new → all_done new ≡ true → AreUnspent new → AreDone course (rounds + 1) new
 next-of course rounds first are parts new is kept done unspent = done-next course rounds first are new (kept ∙ ap (λ ps. map known_of (all_next ps)) is) done unspent
 
-pub letters_next-done : (course : Course) (rounds : ℕ) (parts : List PartState) → AreDone course rounds parts → owed_all (all_next parts) ≡ letter_count course.parts
-letters_next-done course rounds parts are = owed_next-done course rounds parts are ∙ ap letter_count are.all
+pub letters_next-done : (course : Course) (rounds : ℕ) (parts : List PartState) → AreDone course rounds parts → owed_all (all_next parts) ≡ letters_in course rounds
+letters_next-done course rounds parts are = owed_next-done course rounds parts are

@@ -5,6 +5,8 @@ use Rattle.std.proofs.lemmas.Bool.{false≢true}
 use Rattle.std.proofs.lemmas.Bool.Decides.{nat_tests}
 use Rattle.ma_geom.specs.Coordinates.{Coordinates}
 use Rattle.letters.specs.declared.letter.Body.{Body}
+use Rattle.letters.specs.declared.letter.LetterKind.{LetterKind}
+use Rattle.letters.specs.declared.letter.LetterKind.TheVariants as kinds
 use Rattle.part_core.specs.Parts.{Answers, PartState, is_over, stepped}
 use Rattle.part_core.specs.declared.answers.Step.{Step}
 use Rattle.part_core.specs.declared.answers.Step.TheVariants as steps
@@ -12,7 +14,8 @@ use Rattle.part_phases.specs.Phases.{after_entering, answer_after, begins_at, be
 use Rattle.part_phases.specs.Standings.{Answer, Letter, Moved, NotExpected, Outcome, Over, RoundDone, Rules, Standing, Stepped, Waiting, Wrong}
 use Rattle.part_rules.specs.Bodies.{posts_in}
 use Rattle.part_rules.specs.Ends.{if_within, most_tets, total_by}
-use Rattle.part_rules.specs.Rounds.{left_by, rules}
+use Rattle.round_rules.specs.Rounds.{left_by, rules}
+use Rattle.round_rules.specs.Stages.{phase_kind}
 use Rattle.part_rules.specs.declared.course.Course.{Course}
 use Rattle.part_store.specs.Stores.{StoreState}
 use Rattle.world_run.specs.Replay.{after_outcome, is_refusal, is_too_many}
@@ -86,11 +89,29 @@ too_many all s total ends =
       | false ↦ λ past h. let same : all ≡ total = ap in_err h in (sym same, grind (arith, nat_tests))
     ] refl ends
 
+-- whether letters of a kind are posts
+abbrev pub is_post : LetterKind → Bool
+is_post kinds.Post = true
+is_post _ = false
+
 -- only posts tell too many tetrahedra
-pub left_over : (n : ℕ) (part : Standing StoreState Body) (total : ℕ) → left_by n part ≡ Err total → (total ≡ total_by part.holds (posts_in part.now)) × (most_tets < total)
-left_over zero part total ends = too_many (total_by part.holds (posts_in part.now)) part.holds total ends
-left_over (suc zero) part total ends = absurd (false≢true (sym (ap is_ok ends)))
-left_over (suc (suc n)) part total ends = absurd (false≢true (sym (ap is_ok ends)))
+pub left_over : (kind : LetterKind) (part : Standing StoreState Body) (total : ℕ) → left_by kind part ≡ Err total → (total ≡ total_by part.holds (posts_in part.now)) × (most_tets < total)
+left_over kinds.Post part total ends = too_many (total_by part.holds (posts_in part.now)) part.holds total ends
+left_over kinds.Reply part total ends = absurd (false≢true (sym (ap is_ok ends)))
+left_over kinds.Ghosts part total ends = absurd (false≢true (sym (ap is_ok ends)))
+left_over kinds.Propose part total ends = absurd (false≢true (sym (ap is_ok ends)))
+left_over kinds.Vote part total ends = absurd (false≢true (sym (ap is_ok ends)))
+left_over kinds.Order part total ends = absurd (false≢true (sym (ap is_ok ends)))
+left_over kinds.Deliver part total ends = absurd (false≢true (sym (ap is_ok ends)))
+
+pub over_is_post : (kind : LetterKind) (part : Standing StoreState Body) (total : ℕ) → left_by kind part ≡ Err total → is_post kind ≡ true
+over_is_post kinds.Post part total ends = refl
+over_is_post kinds.Reply part total ends = absurd (false≢true (sym (ap is_ok ends)))
+over_is_post kinds.Ghosts part total ends = absurd (false≢true (sym (ap is_ok ends)))
+over_is_post kinds.Propose part total ends = absurd (false≢true (sym (ap is_ok ends)))
+over_is_post kinds.Vote part total ends = absurd (false≢true (sym (ap is_ok ends)))
+over_is_post kinds.Order part total ends = absurd (false≢true (sym (ap is_ok ends)))
+over_is_post kinds.Deliver part total ends = absurd (false≢true (sym (ap is_ok ends)))
 
 -- ---- what a step says of a part
 abbrev made : Course → Standing StoreState Body → ℕ → Bool → PartState
@@ -118,7 +139,7 @@ says old new due rounds round steps.RoundDone is left here stands = ap (λ p. p.
 says old new due rounds round (steps.Over phase total) is left here stands =
     let told : Stands (rules old.course) due.part (Stepped (Over phase total)) = subst (Stands (rules old.course) due.part) is stands in
     let standing_is : new.standing ≡ due.part = ap (λ p. p.standing) left in
-    let much = left_over due.part.phase due.part total told.1 in
+    let much = left_over (phase_kind due.part.phase) due.part total told.1 in
     record {
       spent = ap (λ p. p.spent) left;
       round_is = here;

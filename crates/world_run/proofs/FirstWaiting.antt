@@ -5,7 +5,7 @@ use Rattle.std.proofs.lemmas.Bool.{false≢true}
 use Rattle.std.proofs.lemmas.Bool.Decides.{nat_tests}
 use Rattle.part_core.specs.Parts.{PartState}
 use Rattle.part_phases.proofs.Gathered.{none≢some}
-use Rattle.part_rules.specs.Rounds.{rules}
+use Rattle.round_rules.specs.Rounds.{rules}
 use Rattle.phase_laws.proofs.Staying.{same_some}
 use Rattle.world_run.specs.Replay.{first_waiting, is_done}
 use Rattle.world_run.specs.steps.Beginning.{owed_all}

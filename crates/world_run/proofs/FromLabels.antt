@@ -13,12 +13,14 @@ use Rattle.directory.specs.Posting.{most_told}
 use Rattle.part_core.specs.Parts.{first_part}
 use Rattle.part_phases.specs.Inboxes.{below}
 use Rattle.part_phases.specs.Standings.{Standing}
-use Rattle.part_rules.specs.Rounds.{rules}
+use Rattle.round_rules.specs.Rounds.{rules}
 use Rattle.part_rules.specs.declared.course.Course.{Course}
 use Rattle.part_store.specs.Labelled.{LabelledMesh, own_of}
 use Rattle.part_store.specs.Stores.{StoreState}
 use Rattle.phase_laws.specs.Drawing.{BeginSo}
-use Rattle.view_laws.specs.Truths.{mesh_truth}
+use Rattle.round_laws.specs.Truths.{round_truth}
+use Rattle.staged_meshes.specs.Laws.{plan_of}
+use Rattle.staged_meshes.specs.Staged.{passed_times}
 use Rattle.view_laws.specs.Views.{first_standing}
 use Rattle.view_laws.proofs.FirstRound.{begin_so, carried, is_shared}
 use Rattle.world_run.specs.Meshes.{labelled_mesh}
@@ -61,11 +63,17 @@ module _ (course : Course) (mesh : MarkedMesh) (labels : List ℕ) (may : MaySta
   marks_first = carried course whole may.some is_whole.labelled
 
   pub begin_on : length mesh.tets ≤ most_told → BeginOn course whole marks_first 0 first (first_parts course whole)
-  begin_on told = record {
-    shared = is_shared course whole may.some is_whole.labelled is_whole.tets is_whole.marks;
-    told = let less = no_more mesh labels in omega (arith, told, less);
-    of_course = of-course course 0 (first_parts course whole) (done-first course whole);
-    courses = all-done course 0 (first_parts course whole) (done-first course whole) _ (λ q part within has. has.course_is);
-    rounds = all-done course 0 (first_parts course whole) (done-first course whole) _ (λ q part within has. has.begun);
-    begin = subst (BeginSo (rules course) (mesh_truth course whole marks_first 0) first) (sym (standings_are (below course.parts))) (begin_so course whole may.some is_whole.labelled first);
-  }
+  begin_on told =
+      let old = begin_so course whole may.some is_whole.labelled first in
+      record {
+        shared = is_shared course whole may.some is_whole.labelled is_whole.tets is_whole.marks;
+        stay = λ before below. absurd (omega arith);
+        told = λ stage upto earlier.
+            let none : stage ≡ 0 = omega (arith, upto) in
+            let less = no_more mesh labels in
+            subst (λ z. length (passed_times (plan_of course) whole z).tets ≤ most_told) (sym none) (omega (arith, told, less));
+        of_course = of-course course 0 (first_parts course whole) (done-first course whole);
+        courses = all-done course 0 (first_parts course whole) (done-first course whole) _ (λ q part within has. has.course_is);
+        rounds = all-done course 0 (first_parts course whole) (done-first course whole) _ (λ q part within has. has.begun);
+        begin = subst (BeginSo (rules course) (round_truth course whole marks_first 0) first) (sym (standings_are (below course.parts))) (record { all = old.all; numbers = old.numbers; holds = old.holds; kept = old.kept });
+      }

@@ -12,7 +12,7 @@ use Rattle.part_phases.specs.Owed.{letters_owed}
 use Rattle.part_phases.specs.Phases.{handed}
 use Rattle.part_phases.specs.Standings as phases
 use Rattle.part_phases.proofs.Owed.{taken_letter_lowers_what_is_owed}
-use Rattle.part_rules.specs.Rounds.{rules}
+use Rattle.round_rules.specs.Rounds.{rules}
 use Rattle.part_store.specs.Stores.{StoreState}
 use Rattle.world_run.specs.Replay.{after_outcome, all_done, first_waiting, handed_bytes, handed_letter, is_bad, is_done, is_refusal, letter_in, outcome_at, outcome_of, refuses, unless_done, with_outcome}
 use Rattle.world_run.specs.declared.excess.Excess.{Excess}

@@ -7,7 +7,7 @@ use Rattle.part_core.specs.Parts.{PartState, taken}
 use Rattle.part_phases.specs.Phases.{after_entering, begins_at, begun, entered, gone_on, handed, if_complete, if_owed, is_complete, is_owed, moved, phases_left, with_letter}
 use Rattle.part_phases.specs.Standings.{Letter as PhaseLetter, Outcome, Rules, Standing}
 use Rattle.part_phases.proofs.Kept.{same_part}
-use Rattle.part_rules.specs.Rounds.{rules}
+use Rattle.round_rules.specs.Rounds.{rules}
 use Rattle.part_rules.specs.declared.course.Course.{Course}
 use Rattle.phase_laws.proofs.Staying.{same_some}
 use Rattle.world_run.specs.Replay.{after_outcome, all_next, handed_bytes, handed_letter, is_done, letter_in, next_begun, outcome_at, unless_done, with_outcome}

@@ -1,32 +1,37 @@
 -- Parts that have begun their next round, and the letters that they sent, go along with the drawing of the round, in which all stands right.
-use Rattle.std.proofs.Common.{◌≡◌, ◌-◌, ◌*◌, ◌<◌, ◌/◌, ℕ, zero, suc, true, false, List, [], ◌∷◌, ◌++◌, length, Some, Err, is_ok, refl, sym, ap, subst, ◌∙◌, arith}
+use Rattle.std.proofs.Common.{◌≡◌, ◌+◌, ◌-◌, ◌*◌, ◌<◌, ◌≤◌, ◌/◌, ◌%◌, ℕ, zero, suc, inl, inr, true, false, List, [], ◌∷◌, ◌++◌, length, Some, Err, refl, sym, ap, subst, ◌∙◌, arith}
 use Rattle.std.specs.Prelude.{map, slice_get, is_some}
 use Rattle.std.specs.List.{AllByRecursion, flat_map}
-use Rattle.std.proofs.lemmas.Bool.{false≢true}
+use Rattle.std.proofs.lemmas.Bool.{cases_lt, false≢true}
 use Rattle.std.proofs.lemmas.List.{append-nil, get_or-map, length-map, map-append}
 use Rattle.std.proofs.lemmas.Option.{get_or_from_slice_get, slice_get_within}
 use Rattle.ma_geom.specs.Coordinates.{Coordinates}
 use Rattle.carrier.specs.Carried.{Carried, Letters}
 use Rattle.letters.specs.declared.letter.Body.{Body}
 use Rattle.part_core.specs.Parts.{PartState, sent, taken}
+use Rattle.part_phases.specs.Inboxes.{others}
+use Rattle.part_phases.specs.Owed.{letters_owed}
 use Rattle.part_phases.specs.Phases.{begun, is_complete}
 use Rattle.part_phases.specs.Standings as phases
 use Rattle.part_phases.proofs.Inboxes.{length-others}
 use Rattle.part_phases.proofs.Owed.{round_begun_owes_all_letters}
 use Rattle.part_rules.specs.Bodies.{posts_in}
 use Rattle.part_rules.specs.Ends.{total_by}
-use Rattle.part_rules.specs.Rounds.{left_by, rules}
+use Rattle.round_rules.specs.Rounds.{rules}
+use Rattle.round_rules.specs.Stages.{last_phase, passes_in, phase_kind}
+use Rattle.round_rules.proofs.Turns.{in_turn}
+use Rattle.letters.specs.Bodies.{kind_at}
 use Rattle.part_rules.specs.declared.course.Course.{Course}
 use Rattle.part_store.specs.Stores.{StoreState}
 use Rattle.phase_laws.specs.Drawing.{IsRight, part_at}
-use Rattle.phase_laws.specs.Truth.{Rests, Stands, Truth}
+use Rattle.phase_laws.specs.Truth.{Follows, Rests, Stands, Truth}
 use Rattle.phase_laws.proofs.Starts.{start_is_right}
 use Rattle.phase_laws.proofs.Staying.{outcome_is, same_some}
 use Rattle.world_run.specs.Replay.{all_next, is_too_many, next_begun, next_outcome}
 use Rattle.world_run.specs.Told.{IsOver}
 use Rattle.world_run.specs.steps.Beginning.{AreUnspent, letters_next, owed_all}
 use Rattle.world_run.specs.steps.Drawing.{BeginRight, GoesAlong, ends_over, is_stuck, opening}
-use Rattle.world_run.proofs.Excesses.{left_over}
+use Rattle.world_run.proofs.Excesses.{is_post, left_over, over_is_post}
 use Rattle.world_run.proofs.Resting.{Rests as Rested, could_go_on, rests-begun}
 use Rattle.world_run.proofs.Tracking.{taken_sent}
 
@@ -50,11 +55,24 @@ module _ (r : phases.Rules StoreState Body Coordinates) (part : phases.Standing 
   finds (phases.NotExpected phase) rests is = absurd (false≢true is)
   finds (phases.Wrong place) rests is = absurd (false≢true is)
 
--- only the first phase can end with too many tetrahedra
-in_first : (n : ℕ) (part : phases.Standing StoreState Body) (total : ℕ) → left_by n part ≡ Err total → n ≡ 0
-in_first zero part total ends = refl
-in_first (suc zero) part total ends = absurd (false≢true (sym (ap is_ok ends)))
-in_first (suc (suc n)) part total ends = absurd (false≢true (sym (ap is_ok ends)))
+-- a phase behind the last of a round has no posts
+no_posts : (passes phase : ℕ) → phase ≡ last_phase passes + 1 → is_post (phase_kind phase) ≡ false
+no_posts passes phase is =
+    let place : phase % 7 ≡ 3 = omega (arith, is) in
+    ap is_post ((in_turn phase).0 ∙ ap (λ k. kind_at (k + 1)) place)
+
+-- a part that finds too many tetrahedra is in a phase of the round
+module _ (course : Course) (truth : Truth StoreState Body) (follows : Follows (rules course) truth) (q : ℕ) (within : q < course.parts) (part : phases.Standing StoreState Body) (stands : Stands (rules course) truth q part) (total : ℕ) where
+  pub in_round : (rules course).ends part ≡ Err total → part.phase ≤ truth.end
+  in_round ends = elim (cases_lt truth.end part.phase) [
+    | inr low ↦ low
+    | inl past ↦
+        let upto = stands.upto in
+        let at : part.phase ≡ truth.end + 1 = omega (arith, past, upto) in
+        let last = (follows.final q within (truth.holds (truth.end + 1) q) (stands.done at)).0 in
+        let posts = over_is_post (phase_kind part.phase) part total ends in
+        absurd (false≢true (sym (no_posts (passes_in course truth.round) part.phase (at ∙ ap (λ n. n + 1) last)) ∙ posts))
+  ]
 
 -- ---- lists
 pub all-at : (P : PartState → Type 0) (parts : List PartState) (q : ℕ) (part : PartState) → AllByRecursion P parts → slice_get parts q ≡ Some part → P part
@@ -69,18 +87,29 @@ next-from (part ∷ parts) zero x there = (part, refl, same_some (next_begun par
 next-from (part ∷ parts) (suc q) x there = next-from parts q x there
 
 -- ---- how many letters all are owed
--- parts of a course whose numbers are below that of the parts
-abbrev pub AreOf : Course → List PartState → Type 0
-AreOf course parts = AllByRecursion (λ part. (part.course ≡ course) × (part.standing.me < course.parts)) parts
+-- parts of a course whose numbers are below that of the parts, and which begin this round
+abbrev pub AreOf : Course → ℕ → List PartState → Type 0
+AreOf course round parts = AllByRecursion (λ part. (part.course ≡ course) × (part.standing.me < course.parts) × (part.begun ≡ round)) parts
 
-pub owed_next : (course : Course) (parts : List PartState) → AreOf course parts → owed_all (all_next parts) ≡ length parts * (3 * (course.parts - 1))
-owed_next course [] are = omega arith
-owed_next course (part ∷ parts) are =
+no_parts : (n : ℕ) → 0 ≡ 0 * n
+no_parts n = omega arith
+
+one_more : (n p : ℕ) → p + n * p ≡ suc n * p
+one_more n p = omega arith
+
+less_one : (n all me : ℕ) → n ≡ all → me < all → length (others n me) ≡ all - 1
+less_one n all me same below = let count = length-others n me (omega (arith, same, below)) in omega (arith, count, same)
+
+pub owed_next : (course : Course) (round : ℕ) (parts : List PartState) → AreOf course round parts → owed_all (all_next parts) ≡ length parts * (((rules course).last round + 1) * (course.parts - 1))
+owed_next course round [] are = no_parts (((rules course).last round + 1) * (course.parts - 1))
+owed_next course round (part ∷ parts) are =
     let all = round_begun_owes_all_letters (rules part.course) part.begun part.standing in
     let same : part.course.parts ≡ course.parts = ap (λ c. c.parts) are.0.0 in
-    let count = length-others part.course.parts part.standing.me (omega (arith, same, are.0.1)) in
-    let rest = owed_next course parts are.1 in
-    omega (arith, all, count, same, rest)
+    let count : length (others part.course.parts part.standing.me) ≡ course.parts - 1 = less_one part.course.parts course.parts part.standing.me same are.0.1 in
+    let last : (rules part.course).last part.begun ≡ (rules course).last round = λ i. (rules (are.0.0 i)).last (are.0.2 i) in
+    let one : letters_owed (rules part.course) (next_outcome part).part ≡ ((rules course).last round + 1) * (course.parts - 1) = all ∙ (λ i. (last i + 1) * count i) in
+    let rest = owed_next course round parts are.1 in
+    (λ i. one i + rest i) ∙ one_more (length parts) (((rules course).last round + 1) * (course.parts - 1))
 
 -- ---- parts of a course that begin a round
 module _ (course : Course) (round : ℕ) where
@@ -161,9 +190,9 @@ module _ (course : Course) (truth : Truth StoreState Body) (default : phases.Sta
       let rests : Rests (rules course) truth q due.part = subst (Rests (rules course) truth q) at (opening_right.1.rests q within) in
       let found = finds own due.part due.answer (rests-begun own part.begun part.standing) (ap (λ p. p.spent) (sym is) ∙ over.spent) in
       let complete : is_complete (rules course) due.part ≡ true = subst (λ c. is_complete (rules c) due.part ≡ true) of_course found.1 in
-      let start : due.part.phase ≡ 0 = in_first due.part.phase due.part found.0 found.2 in
-      let ended = rests (omega (arith, start)) complete in
-      let counted = (left_over due.part.phase due.part found.0 found.2).0 in
+      let of_rules : (rules course).ends due.part ≡ Err found.0 = subst (λ c. (rules c).ends due.part ≡ Err found.0) of_course found.2 in
+      let ended = rests (in_round course truth begin.follows q within due.part stands found.0 of_rules) complete in
+      let counted = (left_over (phase_kind due.part.phase) due.part found.0 found.2).0 in
       let count_is : count ≡ found.0 = over.count_is ∙ ap (λ p. total_by p.standing.holds (posts_in p.standing.now)) is ∙ sym counted in
       let outcome : truth.outcome q ≡ Err found.0 = sym (outcome_is (rules course) truth begin.follows q due.part within stands ended.0 complete) ∙ found.2 in (
         over.round_is ∙ ap (λ p. p.standing.round) is ∙ ap (λ s. s.round) stands.is,

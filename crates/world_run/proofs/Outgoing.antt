@@ -6,7 +6,7 @@ use Rattle.part_core.specs.Parts.{Answers, PartState, stepped, taken}
 use Rattle.part_core.specs.declared.answers.Step.{Step}
 use Rattle.part_core.specs.declared.answers.Step.TheVariants as steps
 use Rattle.part_phases.specs.Phases.{handed}
-use Rattle.part_rules.specs.Rounds.{rules}
+use Rattle.round_rules.specs.Rounds.{rules}
 use Rattle.world_run.specs.Replay.{is_done, letter_in, outcome_at, outcome_of, unless_done}
 use Rattle.world_run.specs.declared.excess.Excess.{Excess}
 use Rattle.world_run.specs.declared.handing.Handed.{Handed}

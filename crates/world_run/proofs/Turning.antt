@@ -14,7 +14,7 @@ use Rattle.part_core.specs.Parts.{PartState, sent, taken}
 use Rattle.part_phases.specs.Phases.{handed}
 use Rattle.part_phases.specs.Standings as phases
 use Rattle.part_phases.proofs.Gathered.{all-append}
-use Rattle.part_rules.specs.Rounds.{rules}
+use Rattle.round_rules.specs.Rounds.{rules}
 use Rattle.part_rules.specs.declared.course.Course.{Course}
 use Rattle.part_store.specs.Stores.{StoreState}
 use Rattle.phase_laws.specs.Drawing.{Drawing, part_at, turn, with_part}

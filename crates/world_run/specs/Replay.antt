@@ -10,7 +10,7 @@ use Rattle.part_core.specs.Parts.{PartState, first_part, taken}
 use Rattle.part_phases.specs.Inboxes.{below}
 use Rattle.part_phases.specs.Phases.{begun, handed}
 use Rattle.part_phases.specs.Standings as phases
-use Rattle.part_rules.specs.Rounds.{rules}
+use Rattle.round_rules.specs.Rounds.{rules}
 use Rattle.part_rules.specs.declared.course.Course.{Course}
 use Rattle.part_store.specs.Labelled.{LabelledMesh, own_of}
 use Rattle.part_store.specs.Stores.{StoreState}

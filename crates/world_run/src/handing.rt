@@ -2,7 +2,7 @@
 ghost use Rattle.std.specs.Prelude.{◌≡◌, IfOk, OnOk};
 ghost use Rattle.part_core.specs.Parts.{IsRunning, taken};
 ghost use Rattle.part_phases.specs.Phases.{handed};
-ghost use Rattle.part_rules.specs.Rounds.{rules};
+ghost use Rattle.round_rules.specs.Rounds.{rules};
 ghost use Rattle.world_run.specs.Replay.{letter_in};
 ghost use Rattle.world_run.specs.steps.Beginning.{AreUnspent};
 ghost use Rattle.world_run.specs.steps.Handing.{GivesOut, HandsOut, Reads, ReadsHanded};

@@ -57,6 +57,8 @@ fn start_part(
 ) -> Result<Part, Memory>
     requires parts { course.now.parts ≤ 64 }
     requires grid { course.now.grid ≤ 30 }
+    requires collapses { course.now.collapse ≤ 16 }
+    requires swaps { course.now.swap ≤ 16 }
     requires each { length labels.now ≡ length mesh.now.tets }
     requires number { number < course.now.parts }
     ensures { IfOk result (λ part. part ≡ first_part number course.now (own_of (labelled_mesh mesh.now labels.now) number) (labelled_mesh mesh.now labels.now).marks) }
@@ -93,6 +95,8 @@ pub fn start_all(
 ) -> Result<Vec<Part>, Memory>
     requires parts { course.now.parts ≤ 64 }
     requires grid { course.now.grid ≤ 30 }
+    requires collapses { course.now.collapse ≤ 16 }
+    requires swaps { course.now.swap ≤ 16 }
     requires each { length labels.now ≡ length mesh.now.tets }
     ensures { IfOk result (λ parts. parts.items ≡ first_parts course.now (labelled_mesh mesh.now labels.now)) }
 {

@@ -5,11 +5,13 @@ ghost use Rattle.ma_cells.specs.Grid.{are_on_grid, marks_are_on_grid};
 ghost use Rattle.directory.specs.Posting.{most_told};
 ghost use Rattle.part_rules.specs.declared.course.Course.{Course};
 ghost use Rattle.part_store.specs.Labelled.{LabelledMesh};
-ghost use Rattle.refined_views.specs.Repeated.{refined_times};
-ghost use Rattle.world_run.specs.Drawn.{Draws, EndsAlone, IfAllIsTold, IsDrawn, drawn, letter_count, picks_left, used};
+ghost use Rattle.round_laws.specs.Ends.{letters_in};
+ghost use Rattle.staged_meshes.specs.Laws.{plan_of};
+ghost use Rattle.staged_meshes.specs.Staged.{opened};
+ghost use Rattle.world_run.specs.Drawn.{Draws, EndsAlone, IfAllIsTold, IsDrawn, drawn, picks_left, used};
 ghost use Rattle.world_run.specs.Meshes.{labelled_mesh};
 ghost use Rattle.world_run.specs.Replay.{all_next, first_parts};
-ghost use Rattle.world_run.specs.Rounds.{AreDone, HaveRefined, IsWhole, MayGoOn};
+ghost use Rattle.world_run.specs.Rounds.{AreDone, HaveAdapted, IsOnce, IsWhole, MayGoOn};
 ghost use Rattle.world_run.specs.Told.{HasCause, RunTells, came_to};
 ghost use Rattle.world_run.specs.Union.{union_in};
 ghost use Rattle.world_run.specs.Views.{seen_at};
@@ -62,16 +64,18 @@ impl World {
         requires some { 1 ≤ course.parts }
         requires parts { course.parts ≤ 64 }
         requires grid { course.grid ≤ 30 }
+        requires collapses { course.collapse ≤ 16 }
+        requires swaps { course.swap ≤ 16 }
         requires each { length labels.now ≡ length mesh.now.tets }
         requires tets { are_on_grid course.grid mesh.now.tets ≡ true }
         requires marks { marks_are_on_grid course.grid mesh.now.marks ≡ true }
         requires below { All (λ label. label < course.parts) labels.now }
         ensures told { IfSome (C.carried carrier.old).given (λ before. RunTells (all_next (first_parts course (labelled_mesh mesh.now labels.now))) 0 before (C.carried carrier.new).given result) }
-        ensures drawn { IfAllIsTold (C.carried carrier.old) (λ before. length mesh.now.tets ≤ most_told → Draws 0 (labelled_mesh mesh.now labels.now) (drawn course 0 (first_parts course (labelled_mesh mesh.now labels.now)) (picks_left schedule.old)) 0 before (C.carried carrier.new) result) }
-        ensures alone { course.parts ≡ 1 → length mesh.now.tets ≤ most_told → EndsAlone 0 (labelled_mesh mesh.now labels.now) (all_next (first_parts course (labelled_mesh mesh.now labels.now))) (C.carried carrier.old) (C.carried carrier.new) result }
+        ensures drawn { IfAllIsTold (C.carried carrier.old) (λ before. length mesh.now.tets ≤ most_told → Draws course 0 (labelled_mesh mesh.now labels.now) (drawn course 0 (first_parts course (labelled_mesh mesh.now labels.now)) (picks_left schedule.old)) 0 before (C.carried carrier.new) result) }
+        ensures alone { course.parts ≡ 1 → length mesh.now.tets ≤ most_told → EndsAlone course 0 (labelled_mesh mesh.now labels.now) (all_next (first_parts course (labelled_mesh mesh.now labels.now))) (C.carried carrier.old) (C.carried carrier.new) result }
         ensures whole { IfOk result (λ world. IsWhole course (labelled_mesh mesh.now labels.now)) }
         ensures done { IfOk result (λ world. AreDone course 1 world.parts) }
-        ensures letters { IfOk result (λ world. world.letters ≡ letter_count course.parts) }
+        ensures letters { IfOk result (λ world. world.letters ≡ letters_in course 0) }
         ensures unspent { IfOk result (λ world. world.spent ≡ false) }
         ensures used { IfOk result (λ world. schedule.new ≡ used schedule.old world.letters) }
         ensures faults { (C.carried carrier.old).faults ≤ (C.carried carrier.new).faults }
@@ -99,12 +103,12 @@ impl World {
     ) -> Result<(), RunFault>
         requires may { MayGoOn self.old }
         ensures told { IfSome (C.carried carrier.old).given (λ before. RunTells (all_next self.old.parts) self.old.letters before (C.carried carrier.new).given (came_to self.new result)) }
-        ensures drawn { IfAllIsTold (C.carried carrier.old) (λ before. (course : Course) (mesh : LabelledMesh) (round : ℕ) → IsWhole course mesh → HaveRefined course mesh round self.old.parts → Draws (round + 1) (refined_times (round + 1) course.field mesh) (drawn course (round + 1) self.old.parts (picks_left schedule.old)) self.old.letters before (C.carried carrier.new) (came_to self.new result)) }
-        ensures alone { (course : Course) (mesh : LabelledMesh) (round : ℕ) → course.parts ≡ 1 → IsWhole course mesh → HaveRefined course mesh round self.old.parts → EndsAlone (round + 1) (refined_times (round + 1) course.field mesh) (all_next self.old.parts) (C.carried carrier.old) (C.carried carrier.new) (came_to self.new result) }
+        ensures drawn { IfAllIsTold (C.carried carrier.old) (λ before. (course : Course) (mesh : LabelledMesh) (round : ℕ) → IsWhole course mesh → IsOnce mesh → HaveAdapted course mesh round self.old.parts → Draws course (round + 1) (opened (plan_of course) mesh (round + 1)) (drawn course (round + 1) self.old.parts (picks_left schedule.old)) self.old.letters before (C.carried carrier.new) (came_to self.new result)) }
+        ensures alone { (course : Course) (mesh : LabelledMesh) (round : ℕ) → course.parts ≡ 1 → IsWhole course mesh → IsOnce mesh → HaveAdapted course mesh round self.old.parts → EndsAlone course (round + 1) (opened (plan_of course) mesh (round + 1)) (all_next self.old.parts) (C.carried carrier.old) (C.carried carrier.new) (came_to self.new result) }
         ensures follows { OnOk result (IfAllIsTold (C.carried carrier.old) (λ before. (course : Course) (rounds : ℕ) → AreDone course rounds self.old.parts → IsDrawn (drawn course rounds self.old.parts (picks_left schedule.old)) self.old.letters before (C.carried carrier.new) self.new)) }
         ensures done { OnOk result ((course : Course) (rounds : ℕ) → AreDone course rounds self.old.parts → AreDone course (rounds + 1) self.new.parts) }
-        ensures letters { OnOk result (self.new.letters ≡ self.old.letters + letter_count (length self.old.parts)) }
-        ensures used { OnOk result (schedule.new ≡ used schedule.old (letter_count (length self.old.parts))) }
+        ensures letters { OnOk result ((course : Course) (rounds : ℕ) → AreDone course rounds self.old.parts → self.new.letters ≡ self.old.letters + letters_in course rounds) }
+        ensures used { OnOk result ((course : Course) (rounds : ℕ) → AreDone course rounds self.old.parts → schedule.new ≡ used schedule.old (letters_in course rounds)) }
         ensures unspent { OnOk result (self.new.spent ≡ false) }
         ensures spent { OnErr result (self.new.spent ≡ true) }
         ensures faults { (C.carried carrier.old).faults ≤ (C.carried carrier.new).faults }

@@ -1,5 +1,5 @@
 -- What the words of the code ask for, as the definitions have it. No public contract names it, and it is no promise.
-use Rattle.std.specs.Prelude.{◌≡◌, ◌≤◌, ℕ, true, Option, Some, None}
+use Rattle.std.specs.Prelude.{◌≡◌, ◌≤◌, true, Option, Some, None}
 use Rattle.std.specs.Option.{option_map}
 use Rattle.one_mesh.specs.Adaptation.{most_passes}
 use Rattle.size_marks.specs.Field.{is_size}
@@ -29,18 +29,12 @@ pub record HasParts (division : DivisionWords) : Type 0 where
   pub least : 1 ≤ division.parts
   pub most : division.parts ≤ 64
 
--- parts make no passes
-pub record RunsOverParts (collapses swaps : ℕ) (division : DivisionWords) : Type 0 where
-  pub parts : HasParts division
-  pub no_collapses : collapses ≡ 0
-  pub no_swaps : swaps ≡ 0
-
-abbrev pub IfDivided : (collapses swaps : ℕ) → Option DivisionWords → Type 0
-IfDivided collapses swaps None = Unit {0}
-IfDivided collapses swaps (Some division) = RunsOverParts collapses swaps division
+abbrev pub IfDivided : Option DivisionWords → Type 0
+IfDivided None = Unit {0}
+IfDivided (Some division) = HasParts division
 
 pub record IsInRange (job : Words) : Type 0 where
   pub sizes : HasSize job.sizes
-  pub division : IfDivided job.collapses job.swaps job.division
+  pub division : IfDivided job.division
   pub collapses : job.collapses ≤ most_passes
   pub swaps : job.swaps ≤ most_passes

@@ -14,24 +14,22 @@ use Rattle.msh_write.specs.Text.{nodes_of}
 use Rattle.one_mesh.specs.Adaptation.{StaysWithin}
 use Rattle.refined_views.specs.Refined.{without_labels}
 use Rattle.world_run.specs.Drawn.{used}
-use Rattle.world_run.specs.Rounds.{AreDone, HaveRefined, IsWhole}
+use Rattle.world_run.specs.Rounds.{AreDone, HaveAdapted, IsWhole, SeeMesh}
 use Rattle.world_run.specs.Told.{HasCause, WorldState}
 use Rattle.world_run.specs.Union.{union_in}
 use Rattle.world_run.specs.declared.fault.RunFault.{RunFault}
 use Rattle.meshadapt.specs.declared.halt.Halt.{Halt}
 use Rattle.meshadapt.specs.declared.halt.Halt.TheVariants as halt
 use Rattle.meshadapt.specs.declared.part_rounds.Whole.{Whole}
-use Rattle.meshadapt.specs.Acts.{IsMeant, adapted_by, bytes_of, ending_by, meshes_by, round_acts, whole}
+use Rattle.meshadapt.specs.Acts.{IsMeant, adapted_by, bytes_of, course_of, ending_by, meshes_by, round_acts, whole, whole_after}
 use Rattle.meshadapt.specs.Outcome.{MayFail, Puts, PutsFront}
-use Rattle.meshadapt.specs.OverParts.{AllArrive, AreAll, ComesOf, course_of}
+use Rattle.meshadapt.specs.OverParts.{AllArrive, AreAll, ComesOf}
 use Rattle.meshadapt.specs.Printed.{round_line}
 use Rattle.meshadapt.specs.Verdict.{Handout, Inputs, plan_of}
 use Rattle.meshadapt.specs.Words.{Job}
 
--- that parts can run the rounds of a job: these make no passes and are no more than the grid can be halved, the mesh is sound, and what is handed out of it are its tetrahedra, each once
+-- that parts can run the rounds of a job: these are no more than the grid can be halved, the mesh is sound, and what is handed out of it are its tetrahedra, each once
 pub record MayRun (job : Job) (inputs : Inputs) (handout : Handout) : Type 0 where
-  pub no_collapses : job.collapses ≡ 0
-  pub no_swaps : job.swaps ≡ 0
   pub finer : job.rounds ≤ inputs.grid
   pub sound : IsSoundMesh inputs.mesh
   pub mesh_is : without_labels (whole handout) ≡ inputs.mesh
@@ -47,12 +45,13 @@ pub record IsWholeMesh (made : Whole) (world : WorldState) : Type 0 where
 -- that parts have come to this round over the carrier, where these are the picks that are left, and where they then stand
 pub record HaveCome (job : Job) (inputs : Inputs) (handout : Handout) (worlds : ℕ → WorldState) (round : ℕ) (schedule : Picks) (s t : Carried) : Type 0 where
   pub comes : ComesOf job inputs handout worlds round s t (Ok (worlds round))
-  pub all : AreAll handout round worlds
+  pub all : AreAll (course_of job inputs handout) round worlds
   pub is_whole : IsWhole (course_of job inputs handout) (whole handout)
   pub done : AreDone (course_of job inputs handout) (round + 1) (worlds round).parts
   pub unspent : (worlds round).spent ≡ false
   pub picks : schedule ≡ used handout.schedule (worlds round).letters
-  pub refined : AllArrive handout.parts s → (before : ℕ) → before ≤ round → HaveRefined (course_of job inputs handout) (whole handout) before (worlds before).parts
+  pub have_adapted : AllArrive handout.parts s → (before : ℕ) → before ≤ round → HaveAdapted (course_of job inputs handout) (whole handout) before (worlds before).parts
+  pub within : AllArrive handout.parts s → StaysWithin (plan_of job inputs) round inputs.mesh
   pub arrive : AllArrive handout.parts s → AllArrive handout.parts t
   pub faults : s.faults ≤ t.faults
   pub dry : s.dry ≤ t.dry
@@ -105,9 +104,10 @@ pub record RanParts (job : Job) (inputs : Inputs) (handout : Handout) (round : �
 -- that parts have come through so many rounds, and to what
 pub record CameThrough (job : Job) (inputs : Inputs) (handout : Handout) (worlds : ℕ → WorldState) (round : ℕ) (s t : Carried) : Type 0 where
   pub comes : ComesOf job inputs handout worlds round s t (Ok (worlds round))
-  pub all : AreAll handout round worlds
+  pub all : AreAll (course_of job inputs handout) round worlds
   pub meant : AllArrive handout.parts s → IsMeant job inputs handout round (ending_by worlds round)
   pub within : AllArrive handout.parts s → StaysWithin (plan_of job inputs) round inputs.mesh
+  pub see : AllArrive handout.parts s → (before : ℕ) → before ≤ round → SeeMesh (whole_after job inputs handout before) (worlds before).parts
 
 -- the parts have come through all rounds
 pub record EndsParts (job : Job) (inputs : Inputs) (handout : Handout) (s t : Carried) (world : WorldState) (before after : Received) : Type 0 where

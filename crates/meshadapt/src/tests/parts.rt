@@ -257,7 +257,7 @@ fn nothing_is_posted_for_a_job_that_is_refused(rt: HostRuntime) -> Result<(), Fa
 }
 
 /// The file of a part without tetrahedra.
-const EMPTY: &str =
+pub const EMPTY: &str =
     "$MeshFormat\n2.2 0 8\n$EndMeshFormat\n$Nodes\n0\n$EndNodes\n$Elements\n0\n$EndElements\n";
 
 #[test]

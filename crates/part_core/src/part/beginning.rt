@@ -4,7 +4,7 @@ ghost use Rattle.part_core.specs.steps.Beginning.{holding, opening};
 ghost use Rattle.part_core.specs.steps.Going.{Came};
 ghost use Rattle.part_phases.specs.Phases.{begun};
 ghost use Rattle.part_rules.specs.Begins.{begins_with, refined_store};
-ghost use Rattle.part_rules.specs.Rounds.{rules};
+ghost use Rattle.round_rules.specs.Rounds.{rules};
 
 use crate::answers::Step;
 use crate::inbox::Inbox;
@@ -52,7 +52,7 @@ impl Part {
         self.phase = 0;
         self.current = Inbox::new(alloc);
         self.early = Inbox::new(alloc);
-        self.kept = None;
+        self.kept = Vec::new(alloc);
         self.begun = round + 1;
     }
 

@@ -3,17 +3,14 @@ ghost use Rattle.std.specs.Prelude.{◌≡◌, ◌<◌, ◌≤◌, IfOk, OnErr, 
 ghost use Rattle.part_core.specs.Parts.{PartState, is_over, taken};
 ghost use Rattle.part_core.specs.steps.Going.{Came, Gone, standing_at, step_after};
 ghost use Rattle.part_phases.specs.Phases.{gone_on, is_complete, is_owed, phases_left, with_letter};
-ghost use Rattle.part_rules.specs.Rounds.{rules};
+ghost use Rattle.round_rules.specs.Rounds.{rules};
 
 use crate::answers::Step;
 use crate::part::Part;
 use letters::Letter;
 use ma_geom::Memory;
-use part_rules::is_of_phase;
+use round_rules::{is_of_kind, phase_kind};
 use std::alloc::Global;
-
-/// The last phase of a round.
-const LAST_PHASE: u32 = 2;
 
 /// The answer of a part that entered a phase and then gave this one.
 pub(crate) fn step_after(phase: u32, step: Step) -> Step
@@ -42,8 +39,8 @@ impl Part {
             && letter.target == self.me
             && letter.sender < self.course.parts
             && letter.sender != self.me
-            && letter.phase <= LAST_PHASE
-            && is_of_phase(letter.phase, &letter.body)
+            && letter.phase <= self.last_phase()
+            && is_of_kind(phase_kind(letter.phase), &letter.body)
             && ((letter.phase == self.phase && self.current.lacks(letter.sender))
                 || (letter.phase == self.phase + 1 && self.early.lacks(letter.sender)))
     }
@@ -69,7 +66,7 @@ impl Part {
 
     /// Goes on as far as the letters at hand allow.
     pub(crate) fn go_on(&mut self, alloc: Global, out: &mut Vec<Letter>) -> Result<Step, Memory>
-        requires { self.old.standing.phase ≤ 2 }
+        requires { self.old.standing.phase ≤ (rules self.old.course).last self.old.standing.round }
         ensures { IfOk result (λ step. Gone step self.old self.new out.old.items out.new.items) }
     {
         if !self.is_complete() {
@@ -81,7 +78,7 @@ impl Part {
             Some(total) => return Ok(Step::Over { phase, total }),
             None => {}
         }
-        if phase > LAST_PHASE {
+        if phase > self.last_phase() {
             return Ok(Step::RoundDone);
         }
         self.enter(alloc, out)?;
@@ -104,7 +101,7 @@ impl Part {
         letter: Letter,
         out: &mut Vec<Letter>,
     ) -> Result<Step, Memory>
-        requires running { self.old.standing.phase ≤ 2 }
+        requires running { self.old.standing.phase ≤ (rules self.old.course).last self.old.standing.round }
         requires sender { letter.sender < self.old.course.parts }
         ensures ok { IfOk result (λ step. Came step (gone_on (rules self.old.course) (phases_left (rules self.old.course) self.old.standing) (with_letter self.old.standing (taken letter))) self.old.begun self.old self.new out.old.items out.new.items) }
         ensures err { OnErr result (out.new.items ≡ out.old.items) }

@@ -16,7 +16,7 @@ use Rattle.part_core.specs.declared.answers.Step.TheVariants as steps
 use Rattle.part_phases.specs.Owed.{letters_owed}
 use Rattle.part_rules.specs.Bodies.{posts_in}
 use Rattle.part_rules.specs.Ends.{most_tets, total_by}
-use Rattle.part_rules.specs.Rounds.{rules}
+use Rattle.round_rules.specs.Rounds.{rules}
 use Rattle.part_rules.specs.declared.course.Course.{Course}
 use Rattle.world_run.specs.Replay.{next_outcome}
 use Rattle.world_run.specs.Told.{IsOver}

@@ -17,7 +17,7 @@ use Rattle.letters.specs.declared.letter.Letter.{Letter}
 use Rattle.part_core.specs.Parts.{PartState, taken}
 use Rattle.part_phases.specs.Phases.{is_complete}
 use Rattle.part_phases.specs.Standings as phases
-use Rattle.part_rules.specs.Rounds.{rules}
+use Rattle.round_rules.specs.Rounds.{rules}
 use Rattle.part_rules.specs.declared.course.Course.{Course}
 use Rattle.part_store.specs.Stores.{StoreState}
 use Rattle.phase_laws.specs.Drawing.{BeginSo, Drawing, IsRight, all_begun, turns}

@@ -12,7 +12,7 @@ use Rattle.letters.specs.declared.letter.Letter.{Letter}
 use Rattle.part_core.specs.Parts.{PartState, sent, taken}
 use Rattle.part_phases.specs.Inboxes.{others}
 use Rattle.part_phases.specs.Standings as phases
-use Rattle.part_rules.specs.Rounds.{rules}
+use Rattle.round_rules.specs.Rounds.{rules}
 use Rattle.part_rules.specs.declared.course.Course.{Course}
 use Rattle.part_store.specs.Stores.{StoreState}
 use Rattle.phase_laws.specs.Drawing.{Drawing, turns}

@@ -10,6 +10,12 @@ start-requires-clause-parts g c = (may_start c.args.job.now c.args.accepted.now 
 pub start-requires-clause-grid : goal.start-requires-clause-grid
 start-requires-clause-grid g c = (may_start c.args.job.now c.args.accepted.now c.args.handout.now c.requires.right c.requires.runs c.requires.fits c.requires.finer c.args.course.field c.args.course c.requires.course c.as_slice-labels.result.now c.as_slice-labels.ensures.value).grid_fits
 
+pub start-requires-clause-collapses : goal.start-requires-clause-collapses
+start-requires-clause-collapses g c = (may_start c.args.job.now c.args.accepted.now c.args.handout.now c.requires.right c.requires.runs c.requires.fits c.requires.finer c.args.course.field c.args.course c.requires.course c.as_slice-labels.result.now c.as_slice-labels.ensures.value).collapses
+
+pub start-requires-clause-swaps : goal.start-requires-clause-swaps
+start-requires-clause-swaps g c = (may_start c.args.job.now c.args.accepted.now c.args.handout.now c.requires.right c.requires.runs c.requires.fits c.requires.finer c.args.course.field c.args.course c.requires.course c.as_slice-labels.result.now c.as_slice-labels.ensures.value).swaps
+
 pub start-requires-clause-each : goal.start-requires-clause-each
 start-requires-clause-each g c = (may_start c.args.job.now c.args.accepted.now c.args.handout.now c.requires.right c.requires.runs c.requires.fits c.requires.finer c.args.course.field c.args.course c.requires.course c.as_slice-labels.result.now c.as_slice-labels.ensures.value).each
 

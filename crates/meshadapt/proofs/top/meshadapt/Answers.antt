@@ -1,3 +1,4 @@
+use Rattle.meshadapt.proofs.Headlines.{headline}
 use Rattle.meshadapt.proofs.Kept.{geometry_is_kept}
 use Rattle.meshadapt.proofs.WhenDue.{accepted_is_done, refusal_is_answered, too_many_is_answered, usage_is_answered}
 use Rattle.meshadapt.proofs.top.meshadapt.Goals as goal
@@ -16,3 +17,6 @@ returns-clause-too_many g c = too_many_is_answered c.run.result _ _ _ c.run.ensu
 
 pub returns-clause-geometry : goal.returns-clause-geometry
 returns-clause-geometry g c = geometry_is_kept c.run.result _ _ _ c.run.ensures.leaves
+
+pub returns-clause-headline : goal.returns-clause-headline
+returns-clause-headline g c = headline c.run.result _ _ _ c.run.ensures.leaves

@@ -1,7 +1,7 @@
 use Rattle.std.proofs.Common.{sym}
 use Rattle.part_phases.specs.Phases.{handed}
 use Rattle.part_core.specs.Parts.{taken}
-use Rattle.part_rules.specs.Rounds.{rules as rules_of}
+use Rattle.round_rules.specs.Rounds.{rules as rules_of}
 use Rattle.world_run.proofs.Handings.{given-too_many}
 use Rattle.world_run.proofs.Outgoing.{says_over}
 use Rattle.world_run.proofs.handing.give.Goals as goal

@@ -1,6 +1,6 @@
 use Rattle.std.proofs.Common.{◌+◌, sym, subst}
 use Rattle.part_phases.specs.Phases.{begun}
-use Rattle.part_rules.specs.Rounds.{rules}
+use Rattle.round_rules.specs.Rounds.{rules}
 use Rattle.part_core.specs.Parts.{PartState, is_over}
 use Rattle.part_core.specs.steps.Going.{Came}
 use Rattle.part_core.proofs.Going.{came_first}

@@ -1,7 +1,7 @@
 use Rattle.std.proofs.Common.{◌≡◌, ◌++◌, map}
 use Rattle.part_phases.specs.Inboxes.{others}
 use Rattle.part_core.specs.Parts.{sent}
-use Rattle.part_rules.specs.Rounds.{rules}
+use Rattle.round_rules.specs.Rounds.{rules}
 use Rattle.part_core.proofs.part.Part.send_all.Given as goal
 
 -- the letters to those below the target

@@ -3,7 +3,8 @@ use Rattle.std.specs.Vec.{with_items}
 use Rattle.std.proofs.lemmas.List.{with_items_is}
 use Rattle.std.proofs.lemmas.Result.{err_from_is_err_and}
 use Rattle.part_core.specs.Parts.{PartState}
-use Rattle.refined_views.specs.Repeated.{carried_after, refined_times}
+use Rattle.staged_meshes.specs.Laws.{plan_of}
+use Rattle.staged_meshes.specs.Staged.{carried_at, opened}
 use Rattle.world_run.specs.Drawn.{used}
 use Rattle.world_run.specs.Replay.{all_done, all_next}
 use Rattle.world_run.specs.Rounds.{AreBetween, AreDone}
@@ -91,7 +92,7 @@ returns-in_err-letters-clause-told g c =
     rw (p.1, p.2) (told_err world.parts parts new is world.letters old.given now.given c.in_err-letters.field-0.0 c.in_err-letters.ensures.told)
 
 pub returns-clause-drawn : goal.returns-clause-drawn
-returns-clause-drawn g c before held given course mesh round whole have =
+returns-clause-drawn g c before held given course mesh round whole once have =
     let world = c.args.self.now in
     let parts = c.as_mut_slice.result.now in
     let is : parts ≡ world.parts = c.as_mut_slice.ensures.value ∙ ap (λ w. w.parts) c.self.view_is in
@@ -104,13 +105,13 @@ returns-clause-drawn g c before held given course mesh round whole have =
     let all_letters : next.letters ≡ world.letters + letters = ap (λ w. w.letters + letters) c.self.view_is in
     let old = g.C.Carrier.carried c.args.carrier.now in
     let now = g.C.Carrier.carried c.run_next.new.carrier in
-    let on = begin_next_on course mesh round world.parts whole have c.requires.may.finer in
-    let default = first course mesh round world.parts whole have in
-    drawn_ok course (refined_times (round + 1) course.field mesh) (carried_after (round + 1) course.field mesh) (round + 1) default world.parts on parts new is old now
-    c.args.schedule.now world.letters before held given letters c.in_ok-letters.ensures.drawn c.in_ok-letters.ensures.told next kept all_letters
+    let on = begin_next_on course mesh round world.parts whole once have c.requires.may.finer in
+    let default = first course mesh round world.parts whole once have in
+    drawn_ok course (opened (plan_of course) mesh (round + 1)) (carried_at (plan_of course) mesh (round + 1)) (round + 1) default world.parts on parts new is old now
+    c.args.schedule.now world.letters before held given letters c.in_ok-letters.ensures.drawn c.in_ok-letters.ensures.told c.in_ok-letters.ensures.kept next kept all_letters
 
 pub returns-in_err-letters-clause-drawn : goal.returns-in_err-letters-clause-drawn
-returns-in_err-letters-clause-drawn g c before held given course mesh round whole have =
+returns-in_err-letters-clause-drawn g c before held given course mesh round whole once have =
     let world = c.args.self.now in
     let parts = c.as_mut_slice.result.now in
     let is : parts ≡ world.parts = c.as_mut_slice.ensures.value ∙ ap (λ w. w.parts) c.self.view_is in
@@ -118,14 +119,14 @@ returns-in_err-letters-clause-drawn g c before held given course mesh round whol
     let old = g.C.Carrier.carried c.args.carrier.now in
     let now = g.C.Carrier.carried c.run_next.new.carrier in
     let p = err_from_is_err_and c.from_residual.result c.from_residual.ensures.1 in
-    let on = begin_next_on course mesh round world.parts whole have c.requires.may.finer in
-    let default = first course mesh round world.parts whole have in
+    let on = begin_next_on course mesh round world.parts whole once have c.requires.may.finer in
+    let default = first course mesh round world.parts whole once have in
     rw (p.1, p.2)
-    (drawn_err course (refined_times (round + 1) course.field mesh) (carried_after (round + 1) course.field mesh) (round + 1) default world.parts on parts new is old now
+    (drawn_err course (opened (plan_of course) mesh (round + 1)) (carried_at (plan_of course) mesh (round + 1)) (round + 1) default world.parts on parts new is old now
     c.args.schedule.now world.letters before held given c.in_err-letters.field-0.0 c.in_err-letters.ensures.drawn)
 
 pub returns-clause-alone : goal.returns-clause-alone
-returns-clause-alone g c course mesh round one whole have =
+returns-clause-alone g c course mesh round one whole once have =
     let world = c.args.self.now in
     let parts = c.as_mut_slice.result.now in
     let is : parts ≡ world.parts = c.as_mut_slice.ensures.value ∙ ap (λ w. w.parts) c.self.view_is in
@@ -138,13 +139,13 @@ returns-clause-alone g c course mesh round one whole have =
     let all_letters : next.letters ≡ world.letters + letters = ap (λ w. w.letters + letters) c.self.view_is in
     let old = g.C.Carrier.carried c.args.carrier.now in
     let now = g.C.Carrier.carried c.run_next.new.carrier in
-    let on = begin_next_on course mesh round world.parts whole have c.requires.may.finer in
-    let default = first course mesh round world.parts whole have in
-    ends_ok course (refined_times (round + 1) course.field mesh) (carried_after (round + 1) course.field mesh) (round + 1) default world.parts on parts new is old now
+    let on = begin_next_on course mesh round world.parts whole once have c.requires.may.finer in
+    let default = first course mesh round world.parts whole once have in
+    ends_ok course (opened (plan_of course) mesh (round + 1)) (carried_at (plan_of course) mesh (round + 1)) (round + 1) default world.parts on parts new is old now
     one letters c.in_ok-letters.ensures.alone next kept
 
 pub returns-in_err-letters-clause-alone : goal.returns-in_err-letters-clause-alone
-returns-in_err-letters-clause-alone g c course mesh round one whole have =
+returns-in_err-letters-clause-alone g c course mesh round one whole once have =
     let world = c.args.self.now in
     let parts = c.as_mut_slice.result.now in
     let is : parts ≡ world.parts = c.as_mut_slice.ensures.value ∙ ap (λ w. w.parts) c.self.view_is in
@@ -152,10 +153,10 @@ returns-in_err-letters-clause-alone g c course mesh round one whole have =
     let old = g.C.Carrier.carried c.args.carrier.now in
     let now = g.C.Carrier.carried c.run_next.new.carrier in
     let p = err_from_is_err_and c.from_residual.result c.from_residual.ensures.1 in
-    let on = begin_next_on course mesh round world.parts whole have c.requires.may.finer in
-    let default = first course mesh round world.parts whole have in
+    let on = begin_next_on course mesh round world.parts whole once have c.requires.may.finer in
+    let default = first course mesh round world.parts whole once have in
     rw (p.1, p.2)
-    (ends_err course (refined_times (round + 1) course.field mesh) (carried_after (round + 1) course.field mesh) (round + 1) default world.parts on parts new is old now
+    (ends_err course (opened (plan_of course) mesh (round + 1)) (carried_at (plan_of course) mesh (round + 1)) (round + 1) default world.parts on parts new is old now
     one c.in_err-letters.field-0.0 c.in_err-letters.ensures.alone)
 
 pub returns-clause-done : goal.returns-clause-done
@@ -173,24 +174,22 @@ returns-clause-done g c course rounds are =
     subst (AreDone course (rounds + 1)) (sym kept) (next-of course rounds world.parts are parts new is c.in_ok-letters.ensures.kept c.in_ok-letters.ensures.done c.in_ok-letters.ensures.unspent)
 
 pub returns-clause-letters : goal.returns-clause-letters
-returns-clause-letters g c =
+returns-clause-letters g c course rounds are =
     let world = c.args.self.now in
-    let between : AreBetween world = subst AreBetween c.self.view_is (c.self.invariant (ap (λ w. w.spent) c.self.view_is ∙ c.requires.may.unspent)) in
     let parts = c.as_mut_slice.result.now in
     let is : parts ≡ world.parts = c.as_mut_slice.ensures.value ∙ ap (λ w. w.parts) c.self.view_is in
     let letters = c.in_ok-letters.letters in
     let owed : letters ≡ owed_all (all_next world.parts) = c.in_ok-letters.ensures.letters ∙ ap (λ ps. owed_all (all_next ps)) is in
-    ap (λ w. w.letters + letters) c.self.view_is ∙ ap (λ n. world.letters + n) (owed ∙ owed_next-done between.course between.rounds world.parts between.done)
+    ap (λ w. w.letters + letters) c.self.view_is ∙ ap (λ n. world.letters + n) (owed ∙ owed_next-done course rounds world.parts are)
 
 pub returns-clause-used : goal.returns-clause-used
-returns-clause-used g c =
+returns-clause-used g c course rounds are =
     let world = c.args.self.now in
-    let between : AreBetween world = subst AreBetween c.self.view_is (c.self.invariant (ap (λ w. w.spent) c.self.view_is ∙ c.requires.may.unspent)) in
     let parts = c.as_mut_slice.result.now in
     let is : parts ≡ world.parts = c.as_mut_slice.ensures.value ∙ ap (λ w. w.parts) c.self.view_is in
     let letters = c.in_ok-letters.letters in
     let owed : letters ≡ owed_all (all_next world.parts) = c.in_ok-letters.ensures.letters ∙ ap (λ ps. owed_all (all_next ps)) is in
-    c.in_ok-letters.ensures.used ∙ ap (used c.args.schedule.now) (owed ∙ owed_next-done between.course between.rounds world.parts between.done)
+    c.in_ok-letters.ensures.used ∙ ap (used c.args.schedule.now) (owed ∙ owed_next-done course rounds world.parts are)
 
 pub returns-clause-follows : goal.returns-clause-follows
 returns-clause-follows g c before held given course rounds done =

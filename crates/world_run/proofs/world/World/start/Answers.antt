@@ -26,7 +26,7 @@ pub run_next-requires-clause-few : goal.run_next-requires-clause-few
 run_next-requires-clause-few g c =
     let whole = labelled_mesh c.args.mesh.now c.args.labels.now in
     let is : c.as_mut_slice.result.now ≡ first_parts c.args.course whole = search rules in
-    subst (λ ps. owed_all (all_next ps) < 2 ^ 64) (sym is) (few_next c.args.course 0 (first_parts c.args.course whole) (done-first c.args.course whole) c.requires.parts)
+    subst (λ ps. owed_all (all_next ps) < 2 ^ 64) (sym is) (few_next c.args.course 0 (first_parts c.args.course whole) (done-first c.args.course whole) c.requires.parts c.requires.collapses c.requires.swaps)
 
 pub returns-clause-whole : goal.returns-clause-whole
 returns-clause-whole g c =
@@ -87,7 +87,7 @@ returns-clause-drawn g c before held given told =
     let world : WorldState = record { parts = all; letters = letters; spent = false } in
     let all_letters : letters ≡ 0 + letters = omega arith in
     drawn_ok course (labelled_mesh mesh labels) (marks_first course mesh labels may) 0 (first course mesh labels may) (first_parts course (labelled_mesh mesh labels)) (begin_on course mesh labels may told) parts new is old now
-    c.args.schedule.now 0 before held given letters c.in_ok-letters.ensures.drawn c.in_ok-letters.ensures.told world kept all_letters
+    c.args.schedule.now 0 before held given letters c.in_ok-letters.ensures.drawn c.in_ok-letters.ensures.told c.in_ok-letters.ensures.kept world kept all_letters
 
 pub returns-in_err-letters-clause-drawn : goal.returns-in_err-letters-clause-drawn
 returns-in_err-letters-clause-drawn g c before held given told =
@@ -184,5 +184,5 @@ invariant_of-result g c _ =
     let world : WorldState = record { parts = all; letters = letters; spent = false } in
     let before = done-first course (labelled_mesh mesh labels) in
     let done = subst (AreDone course 1) (sym kept) (next-of course 0 (first_parts course (labelled_mesh mesh labels)) before parts new is c.in_ok-letters.ensures.kept c.in_ok-letters.ensures.done c.in_ok-letters.ensures.unspent) in
-    between_first course world c.requires.some c.requires.parts c.requires.grid done
+    between_first course world c.requires.some c.requires.parts c.requires.grid c.requires.collapses c.requires.swaps done
     (c.in_ok-letters.ensures.letters ∙ ap (λ ps. owed_all (all_next ps)) is ∙ letters_next-done course 0 (first_parts course (labelled_mesh mesh labels)) before)
