@@ -12,8 +12,8 @@ measure() { measure_words --plain --mesh "$1" --uniform "$2" --rounds "$3" --col
 # The same with the size file $2.
 measure_sizes() { measure_words --plain --mesh "$1" --size "$2" --rounds "$3" --collapse "${4-0}" --swap "${5-0}" --out stored; }
 
-# The same over $3 parts by the partition file $4 and the schedule $5, with $6 rounds.
-measure_parts() { measure_words --mesh "$1" --uniform "$2" --parts "$3" --partition "$4" --schedule "$5" --rounds "$6" --collapse 0 --swap 0 --out stored; }
+# The same over $3 parts by the partition file $4 and the schedule $5, with $6 rounds, each with $7 passes of collapses and $8 of swaps, or none.
+measure_parts() { measure_words --mesh "$1" --uniform "$2" --parts "$3" --partition "$4" --schedule "$5" --rounds "$6" --collapse "${7-0}" --swap "${8-0}" --out stored; }
 
 # The same with these words.
 measure_words() {

@@ -306,6 +306,26 @@ def parts_refine_as_the_whole_does(model: str):
         assert abs(total_volume(view.points, owned[part]) - volume) <= 1e-9 * volume, part
 
 
+def parts_adapt_as_the_whole_does(model: str):
+    whole = whole_of(model)
+    if not shutil.which("mpmetis"):
+        return "mpmetis isn't there"
+    partition, schedule, out = (model.replace(".msh", ending) for ending in (".part6", ".sched6", "_parts6"))
+    done("part", whole, 6, partition)
+    Path(schedule).write_text("".join(f"{17 * n}\n" for n in range(300)))
+    words = ("--uniform", size_between(whole), "--rounds", 2, "--collapse", 1, "--swap", 1, "--out")
+    division = ("--parts", 6, "--partition", partition, "--schedule", schedule)
+    ended = ran(PROGRAM, "--mesh", whole, *words[:2], *division, *words[2:], out)
+    # Three phases in round 0, and in each later one those and seven for each pass.
+    assert ended.returncode == 0 and ended.stdout.endswith(f"done: parts 6 letters {6 * 5 * (3 + 2 * 17)}\n"), ended.stdout
+    plain = ran(PROGRAM, "--plain", "--mesh", whole, *words, f"{out}_plain")
+    assert plain.stdout.splitlines()[:-1] == ended.stdout.splitlines()[:-1]
+    assert Path(f"{out}.msh").read_bytes() == Path(f"{out}_plain.msh").read_bytes()
+    views = [read_mesh(f"{out}.p{part}.msh") for part in range(6)]
+    owned = [int((view.cells[3].parts() == part).sum()) for part, view in enumerate(views)]
+    assert sum(owned) == len(read_mesh(f"{out}.msh").tetrahedra)
+
+
 def pictures_show_the_mesh(model: str):
     if not importlib.util.find_spec("matplotlib"):
         return "matplotlib isn't there"
@@ -612,7 +632,7 @@ def wrapper_explains(folder: str):
     assert (ended.returncode, ended.stderr) == (0, "") and ended.stdout.endswith("done: plain\n"), ended
 
 
-ON_EACH_MODEL = (rounding_keeps_measures, refinement_keeps_measures, coarsening_keeps_measures, formats_read_back, parts_are_balanced, parts_see_their_own_and_what_lies_around, parts_refine_as_the_whole_does, pictures_show_the_mesh, version_2_is_read_as_4)
+ON_EACH_MODEL = (rounding_keeps_measures, refinement_keeps_measures, coarsening_keeps_measures, formats_read_back, parts_are_balanced, parts_see_their_own_and_what_lies_around, parts_refine_as_the_whole_does, parts_adapt_as_the_whole_does, pictures_show_the_mesh, version_2_is_read_as_4)
 ONCE = (
     flat_and_turned_are_named,
     nodes_together_are_named,
